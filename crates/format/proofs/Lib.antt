@@ -1,0 +1,5 @@
+pub mod numbers
+pub mod codecs
+pub mod lengths
+pub mod plan
+pub mod third

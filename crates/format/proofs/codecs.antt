@@ -1,0 +1,13 @@
+pub mod Header
+pub mod Occurs
+pub mod Packed
+pub mod Uvarints
+pub mod Plain
+pub mod Varint
+pub mod BitPacked
+pub mod RunLength
+pub mod Dictionary
+pub mod Codes
+pub mod Delta
+pub mod Body
+pub mod Chunk

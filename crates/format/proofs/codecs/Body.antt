@@ -1,0 +1,57 @@
+-- Every encoding: a body that was written is read back.
+use mathlib.Core.Path.{_≡_}
+use mathlib.Core.Option.{Option}
+use Prim.Native.Nat.{ℕ, _+_, _^_, _≤_}
+use mathlib.Core.List.{List, _++_}
+use lib.IntN.{ℤ}
+use lib.ListN.{length}
+use Rattle.format.specs.Outcome.{ok}
+use Rattle.format.specs.Chunk.{bodyOf, validateBody, bodyValues}
+use Rattle.format.specs.ThirdDemand.{Keys}
+use Rattle.format.specs.declared.Encoding.{Encoding}
+use Rattle.format.specs.declared.Encoding.the-variants.{Plain, Varint, BitPacked, FrameOfReference, RunLength, Dictionary, DeltaBinaryPacked}
+use Rattle.format.proofs.numbers.All.{All, Key, keys-all}
+use Rattle.format.proofs.codecs.Occurs.{Occurs, occurs-middle}
+use Rattle.format.proofs.codecs.Plain.{plain-validate, plain-back}
+use Rattle.format.proofs.codecs.Varint.{varint-validate, varint-back}
+use Rattle.format.proofs.codecs.BitPacked.{bitPacked-validate, bitPacked-back, frame-validate, frame-back}
+use Rattle.format.proofs.codecs.RunLength.{runLength-validate, runLength-back}
+use Rattle.format.proofs.codecs.Dictionary.{dictionary-validate, dictionary-back}
+use Rattle.format.proofs.codecs.Delta.{delta-validate, delta-back}
+
+module _ {s : List ℕ} {at : ℕ} {column : List ℤ} (ks : All Key column) (few : length column ≤ 2 ^ 24) where
+  -- a body that stands at a place: its end,
+  pub body-validate :
+      (e : Encoding) → Occurs s at (bodyOf e column) → (padded : Option ℕ)
+      → validateBody e s at (length column) padded ≡ ok (record { end = at + length (bodyOf e column); padded = padded })
+  unfolding bodyOf validateBody
+  body-validate Plain h padded = plain-validate column h padded
+  body-validate Varint h padded = varint-validate ks h padded
+  body-validate BitPacked h padded = bitPacked-validate ks h padded
+  body-validate FrameOfReference h padded = frame-validate ks h padded
+  body-validate RunLength h padded = runLength-validate ks few h padded
+  body-validate Dictionary h padded = dictionary-validate ks few h padded
+  body-validate DeltaBinaryPacked h padded = delta-validate ks h padded
+
+  -- and its values
+  pub body-values : (e : Encoding) → Occurs s at (bodyOf e column) → bodyValues e s at (length column) ≡ column
+  unfolding bodyOf bodyValues
+  body-values Plain h = plain-back ks h
+  body-values Varint h = varint-back ks h
+  body-values BitPacked h = bitPacked-back ks h
+  body-values FrameOfReference h = frame-back ks h
+  body-values RunLength h = runLength-back ks few h
+  body-values Dictionary h = dictionary-back ks few h
+  body-values DeltaBinaryPacked h = delta-back ks h
+
+-- THE SAME between any bytes before and after
+module _ (e : Encoding) (pre : List ℕ) (column : List ℤ) (rest : List ℕ) (ks : Keys column) (few : length column ≤ 2 ^ 24) where
+  -- its end
+  pub validateBody-back :
+      (padded : Option ℕ)
+      → validateBody e (pre ++ (bodyOf e column ++ rest)) (length pre) (length column) padded ≡ ok (record { end = length pre + length (bodyOf e column); padded = padded })
+  validateBody-back padded = body-validate (keys-all column ks) few e (occurs-middle pre (bodyOf e column) rest) padded
+
+  -- its values
+  pub bodyValues-back : bodyValues e (pre ++ (bodyOf e column ++ rest)) (length pre) (length column) ≡ column
+  bodyValues-back = body-values (keys-all column ks) few e (occurs-middle pre (bodyOf e column) rest)

@@ -1,0 +1,64 @@
+-- Packed numbers, read where they stand in a chunk.
+use mathlib.Core.Path.{_≡_, ap, _∙_}
+use Prim.Native.Nat.{ℕ, suc, _+_, _-_, _%_, _^_, _≤_}
+use native.Mathlib.Omega.{arith}
+use mathlib.Core.List.{List, _∷_, map}
+use lib.ListN.{length, getD}
+use borrow.Author.Tests.{lt-ltb, le-leb}
+use Rattle.format.specs.Outcome.{ok}
+use Rattle.format.specs.Varint.{width}
+use Rattle.format.specs.Packing.{packedLen, packed, widthAt, packedEnd, packedValues}
+use Rattle.format.specs.Folds.{largest}
+use Rattle.format.specs.BitPacked.{packedBody}
+use Rattle.format.proofs.numbers.Digits.{Below, length-digits, unpacked-packed}
+use Rattle.format.proofs.numbers.Widths.{width-le}
+use Rattle.format.proofs.numbers.Extremes.{mod-below, below-widest}
+use Rattle.format.proofs.codecs.Occurs.{Occurs, occurs-tail, occurs-byte, occurs-room}
+
+-- packed bytes are so many as the packed length says
+pub length-packed : (w : ℕ) (ns : List ℕ) → length (packed w ns) ≡ packedLen (length ns) w
+unfolding packed
+length-packed w ns = length-digits 256 _ _
+
+module _ {s : List ℕ} {at : ℕ} where
+  -- the width byte that stands at a place
+  pub width-read : {b : ℕ} {bs : List ℕ} → Occurs s at (b ∷ bs) → widthAt s at ≡ ok b
+  unfolding widthAt
+  width-read h = rw (lt-ltb at (length s) (omega (arith, occurs-room h)), occurs-byte h)
+
+  -- a packed body that stands at a place: its end
+  pub packed-end : (w : ℕ) (ns : List ℕ) → w ≤ 64 → Occurs s at (packed w ns) → packedEnd s at w (length ns) ≡ ok (at + packedLen (length ns) w)
+  unfolding packedEnd
+  packed-end w ns k h = rw (le-leb w 64 k, le-leb (packedLen (length ns) w) (length s - at) (omega (arith, length-packed w ns, occurs-room h)))
+
+  -- and its values, without their bits above the width
+  pub packed-cut : (w : ℕ) (ns : List ℕ) → Occurs s at (packed w ns) → packedValues s at w (length ns) ≡ map (λ n. n % 2 ^ w) ns
+  unfolding packedValues
+  packed-cut w ns h = rw (h .here) (unpacked-packed w ns (h .rest))
+
+  -- the values themselves, where they fit the width
+  pub packed-back : (w : ℕ) (ns : List ℕ) → Below (2 ^ w) ns → Occurs s at (packed w ns) → packedValues s at w (length ns) ≡ ns
+  packed-back w ns k h = packed-cut w ns h ∙ mod-below k
+
+module _ {s : List ℕ} {at : ℕ} (ns : List ℕ) (b : Below (2 ^ 64) ns) (h : Occurs s at (packedBody ns)) where
+  -- a width byte and the numbers packed at it, read where they stand: the width,
+  pub body-width : widthAt s at ≡ ok (width (largest ns))
+  unfolding packedBody
+  body-width = width-read h
+
+  -- its byte,
+  pub body-byte : getD s at 0 ≡ width (largest ns)
+  unfolding packedBody
+  body-byte = occurs-byte h
+
+  -- the end,
+  pub body-end : packedEnd s (at + 1) (width (largest ns)) (length ns) ≡ ok (at + length (packedBody ns))
+  unfolding packedBody
+  body-end =
+      let e : at + 1 + packedLen (length ns) (width (largest ns)) ≡ at + suc (length (packed (width (largest ns)) ns)) = omega (arith, length-packed (width (largest ns)) ns) in
+      packed-end (width (largest ns)) ns (width-le (largest ns)) (occurs-tail h) ∙ ap ok e
+
+  -- and the numbers
+  pub body-back : packedValues s (at + 1) (width (largest ns)) (length ns) ≡ ns
+  unfolding packedBody
+  body-back = packed-back (width (largest ns)) ns (below-widest b) (occurs-tail h)

@@ -1,0 +1,147 @@
+-- How many distinct values there are, and where the gathered ones are all of them.
+use mathlib.Core.Path.{_≡_, refl, sym, ap, _∙_}
+use Prim.Native.Nat.{suc, _+_, min, _≤_, _<_}
+use native.Mathlib.Nat.{le-refl, le-trans}
+use native.Mathlib.Omega.{arith}
+use mathlib.Core.Bool.{Bool, true, false, cond}
+use mathlib.Core.List.{List, [], _∷_}
+use lib.IntN.{ℤ}
+use lib.Dec.{ltb}
+use lib.Signed.{ltZ}
+use lib.ListN.{length}
+use borrow.Author.Tests.{ltb-true, ltb-false, le-ltb, lt-ltb}
+use Rattle.format.specs.Encodings.{maxDictionaryCardinality}
+use Rattle.format.specs.Distinct.{insert, distinctFrom, distinct, tooManyDistinct, cappedDistinctFrom, cappedDistinct}
+use Rattle.format.specs.Statistics.{distinctValues}
+
+-- taking a value in loses none
+pub insert-grows : (v : ℤ) (held : List ℤ) → length held ≤ length (insert v held)
+unfolding insert
+insert-grows v [] = omega arith
+insert-grows v (x ∷ xs) = go (ltZ x v) (ltZ v x) (insert-grows v xs)
+  where
+    go : (a b : Bool) → length xs ≤ length (insert v xs) → length (x ∷ xs) ≤ length (cond a (x ∷ insert v xs) (cond b (v ∷ x ∷ xs) (x ∷ xs)))
+    go true b i = omega arith
+    go false true i = omega arith
+    go false false i = le-refl _
+
+-- and adds one at most
+pub insert-one : (v : ℤ) (held : List ℤ) → length (insert v held) ≤ suc (length held)
+unfolding insert
+insert-one v [] = omega arith
+insert-one v (x ∷ xs) = go (ltZ x v) (ltZ v x) (insert-one v xs)
+  where
+    go : (a b : Bool) → length (insert v xs) ≤ suc (length xs) → length (cond a (x ∷ insert v xs) (cond b (v ∷ x ∷ xs) (x ∷ xs))) ≤ suc (length (x ∷ xs))
+    go true b i = omega arith
+    go false true i = omega arith
+    go false false i = omega arith
+
+-- where the count does not grow, the value was there
+pub insert-same : (v : ℤ) (held : List ℤ) → length (insert v held) ≤ length held → insert v held ≡ held
+unfolding insert
+insert-same v [] h = absurd (omega arith)
+insert-same v (x ∷ xs) h = go (ltZ x v) (ltZ v x) (insert-same v xs) h
+  where
+    go : (a b : Bool) → (length (insert v xs) ≤ length xs → insert v xs ≡ xs)
+        → length (cond a (x ∷ insert v xs) (cond b (v ∷ x ∷ xs) (x ∷ xs))) ≤ length (x ∷ xs)
+        → cond a (x ∷ insert v xs) (cond b (v ∷ x ∷ xs) (x ∷ xs)) ≡ x ∷ xs
+    go true b i h = ap (λ (l : List ℤ). x ∷ l) (i (omega arith))
+    go false true i h = absurd (omega arith)
+    go false false i h = refl
+
+-- the walk loses none that is held
+pub distinctFrom-grows : (held vs : List ℤ) → length held ≤ length (distinctFrom held vs)
+unfolding distinctFrom
+distinctFrom-grows held [] = le-refl _
+distinctFrom-grows held (v ∷ vs) = le-trans (insert-grows v held) (distinctFrom-grows (insert v held) vs)
+
+-- and adds at most what is to come
+pub distinctFrom-most : (held vs : List ℤ) → length (distinctFrom held vs) ≤ length held + length vs
+unfolding distinctFrom
+distinctFrom-most held [] = omega arith
+distinctFrom-most held (v ∷ vs) = omega (arith, insert-one v held, distinctFrom-most (insert v held) vs)
+
+-- no more distinct values than values
+pub distinct-most : (column : List ℤ) → length (distinct column) ≤ length column
+unfolding distinct
+distinct-most column = omega (arith, distinctFrom-most [] column)
+
+-- at least one, where there is a value
+pub distinct-some : (v : ℤ) (vs : List ℤ) → 1 ≤ length (distinct (v ∷ vs))
+unfolding distinct distinctFrom insert
+distinct-some v vs = distinctFrom-grows (v ∷ []) vs
+
+-- the walk that stops at 16,384 is the walk, where no more are met
+pub cappedDistinctFrom-all : (held vs : List ℤ) → length (distinctFrom held vs) ≤ maxDictionaryCardinality → cappedDistinctFrom held vs ≡ distinctFrom held vs
+unfolding distinctFrom cappedDistinctFrom
+cappedDistinctFrom-all held [] h = refl
+cappedDistinctFrom-all held (v ∷ vs) h =
+    ap (λ (l : List ℤ). cappedDistinctFrom l vs) (go (ltb (length held) maxDictionaryCardinality) refl) ∙ cappedDistinctFrom-all (insert v held) vs h
+  where
+    go : (t : Bool) → ltb (length held) maxDictionaryCardinality ≡ t → cond t (insert v held) held ≡ insert v held
+    go true e = refl
+    go false e =
+        let full : maxDictionaryCardinality ≤ length held = ltb-false _ _ e in
+        let top : length (insert v held) ≤ maxDictionaryCardinality = le-trans (distinctFrom-grows (insert v held) vs) h in
+        sym (insert-same v held (le-trans top full))
+
+-- not too many: at most 16,384
+pub few-of-tooManyDistinct : (column : List ℤ) → tooManyDistinct column ≡ false → length (distinct column) ≤ maxDictionaryCardinality
+unfolding tooManyDistinct
+few-of-tooManyDistinct column e = ltb-false _ _ e
+
+-- and back
+pub tooManyDistinct-of-few : (column : List ℤ) → length (distinct column) ≤ maxDictionaryCardinality → tooManyDistinct column ≡ false
+unfolding tooManyDistinct
+tooManyDistinct-of-few column h = le-ltb _ _ h
+
+-- too many: more than 16,384
+pub tooManyDistinct-of-many : (column : List ℤ) → maxDictionaryCardinality < length (distinct column) → tooManyDistinct column ≡ true
+unfolding tooManyDistinct
+tooManyDistinct-of-many column h = lt-ltb _ _ h
+
+-- the scratch's front holds all the distinct values, where there are not too many
+pub cappedDistinct-all : (column : List ℤ) → length (distinct column) ≤ maxDictionaryCardinality → cappedDistinct column ≡ distinct column
+unfolding cappedDistinct distinct
+cappedDistinct-all column h = cappedDistinctFrom-all [] column h
+
+-- the part that is handed back is all of them, where there are not too many
+pub distinctValues-all : (column : List ℤ) → length (distinct column) ≤ maxDictionaryCardinality → distinctValues column ≡ distinct column
+unfolding distinctValues
+distinctValues-all column h = rw (tooManyDistinct-of-few column h)
+
+-- where there are too many, none is handed back
+pub distinctValues-none : (column : List ℤ) → maxDictionaryCardinality < length (distinct column) → distinctValues column ≡ []
+unfolding distinctValues
+distinctValues-none column h = rw (tooManyDistinct-of-many column h)
+
+-- ---- how many the scratch's front holds
+
+-- once 16,384 are held no value is taken in
+pub cappedDistinctFrom-full : (held vs : List ℤ) → maxDictionaryCardinality ≤ length held → cappedDistinctFrom held vs ≡ held
+unfolding cappedDistinctFrom
+cappedDistinctFrom-full held [] h = refl
+cappedDistinctFrom-full held (v ∷ vs) h = rw (le-ltb (length held) maxDictionaryCardinality h) (cappedDistinctFrom-full held vs h)
+
+-- the distinct values, up to 16,384
+pub length-cappedDistinctFrom : (held vs : List ℤ) → length held ≤ maxDictionaryCardinality → length (cappedDistinctFrom held vs) ≡ min maxDictionaryCardinality (length (distinctFrom held vs))
+unfolding distinctFrom cappedDistinctFrom
+length-cappedDistinctFrom held [] h = omega arith
+length-cappedDistinctFrom held (v ∷ vs) h = go (ltb (length held) maxDictionaryCardinality) refl (length-cappedDistinctFrom (insert v held) vs)
+  where
+    go : (t : Bool) → ltb (length held) maxDictionaryCardinality ≡ t
+        → (length (insert v held) ≤ maxDictionaryCardinality → length (cappedDistinctFrom (insert v held) vs) ≡ min maxDictionaryCardinality (length (distinctFrom (insert v held) vs)))
+        → length (cappedDistinctFrom (cond t (insert v held) held) vs) ≡ min maxDictionaryCardinality (length (distinctFrom (insert v held) vs))
+    go true e i = i (omega (arith, ltb-true (length held) maxDictionaryCardinality e, insert-one v held))
+    go false e i =
+        let full : maxDictionaryCardinality ≤ length held = ltb-false (length held) maxDictionaryCardinality e in
+        rw (cappedDistinctFrom-full held vs full) (omega (arith, insert-grows v held, distinctFrom-grows (insert v held) vs))
+
+-- of a column
+pub length-cappedDistinct : (column : List ℤ) → length (cappedDistinct column) ≡ min maxDictionaryCardinality (length (distinct column))
+unfolding cappedDistinct distinct
+length-cappedDistinct column = length-cappedDistinctFrom [] column (omega arith)
+
+-- so a scratch of the size that is asked for has room for them
+pub cappedDistinct-most : (column : List ℤ) → length (cappedDistinct column) ≤ min (length column) maxDictionaryCardinality
+cappedDistinct-most column = omega (arith, length-cappedDistinct column, distinct-most column)

@@ -1,0 +1,214 @@
+-- How long a chunk and an estimate can be: every number that is summed up on the way fits 64 bits, and is exact as an f64.
+use mathlib.Core.Path.{_≡_}
+use Prim.Native.Nat.{ℕ, suc, _+_, _-_, _*_, max, _≤_}
+use native.Mathlib.Nat.{le-refl, le-trans, mul-le-mul-left, suc-mul}
+use native.Mathlib.Decide.{decLe}
+use native.Mathlib.Omega.{arith}
+use mathlib.Core.Bool.{Bool, true, false, cond}
+use mathlib.Core.List.{List, [], _∷_, map}
+use lib.IntN.{ℤ, pos}
+use lib.ListN.{length, length-append, getD}
+use Rattle.format.specs.Keys.{gap, zigzag, eqZ}
+use Rattle.format.specs.Varint.{width, uvarintLen, varintLen}
+use Rattle.format.specs.Encodings.{maxChunkElements, maxDictionaryCardinality}
+use Rattle.format.specs.Folds.{least, greatest, largest, total, deltas}
+use Rattle.format.specs.Header.{headerLen}
+use Rattle.format.specs.Runs.{Run, runsFrom, runs}
+use Rattle.format.specs.Distinct.{distinct}
+use Rattle.format.specs.Dictionary.{codeWidth}
+use Rattle.format.specs.Delta.{deltaBlockSize, blockCount}
+use Rattle.format.specs.Statistics.{runLen}
+use Rattle.format.specs.Estimates.{gapsLen, entriesLen, estimatesOf, lengthIn, availableIn}
+use Rattle.format.specs.declared.Encoding.{Encoding}
+use Rattle.format.specs.declared.Encoding.the-variants.{Plain, Varint, BitPacked, FrameOfReference, RunLength, Dictionary, DeltaBinaryPacked}
+use Rattle.format.proofs.numbers.Widths.{width-le, width-least, uvarintLen-pos, uvarintLen-le, uvarintLen-least}
+use Rattle.format.proofs.lengths.PackedLen.{packedLen-most}
+use Rattle.format.proofs.lengths.Distinct.{distinct-most}
+use Rattle.format.proofs.lengths.Estimates.{plain-estimate, varint-estimate, bitPacked-estimate, frame-estimate, runLength-estimate, dictionary-estimate, delta-estimate, dictionary-none, delta-none, dictionary-few, delta-two}
+use Rattle.format.proofs.lengths.DeltaLength.{deltaBlockSize-len}
+
+-- ---- the parts
+
+-- a signed varint: at most 10 bytes
+pub varintLen-le : (v : ℤ) → varintLen v ≤ 10
+unfolding varintLen
+varintLen-le v = uvarintLen-le (zigzag v)
+
+-- a run: at most 20
+pub runLen-le : (r : Run) → runLen r ≤ 20
+unfolding runLen
+runLen-le r = omega (arith, varintLen-le (r .key), uvarintLen-le (r .times))
+
+-- a sum of numbers that are at most c
+pub total-most {ℓ} : {A : Type ℓ} (f : A → ℕ) (c : ℕ) (l : List A) → ((a : A) → f a ≤ c) → total (map f l) ≤ length l * c
+unfolding total
+total-most f c [] h = omega arith
+total-most f c (a ∷ as') h = rw suc-mul (omega (arith, h a, total-most f c as' h))
+
+-- `varint_body_bytes`: at most 10 bytes a value
+pub varintBytes-most : (column : List ℤ) → total (map varintLen column) ≤ 10 * length column
+varintBytes-most column = omega (arith, total-most varintLen 10 column varintLen-le)
+
+-- `run_count`: at most the values
+pub runsFrom-most : (key : ℤ) (times : ℕ) (vs : List ℤ) → length (runsFrom key times vs) ≤ suc (length vs)
+unfolding runsFrom
+runsFrom-most key times [] = le-refl 1
+runsFrom-most key times (v ∷ vs) = rw length-append (go (eqZ key v) (runsFrom-most v (cond (eqZ key v) (times + 1) 1) vs))
+  where
+    go : (t : Bool) → length (runsFrom v (cond (eqZ key v) (times + 1) 1) vs) ≤ suc (length vs)
+        → length {A = Run} (cond t [] (record { key = key; times = times } ∷ [])) + length (runsFrom v (cond (eqZ key v) (times + 1) 1) vs) ≤ suc (length (v ∷ vs))
+    go true i = omega arith
+    go false i = omega arith
+
+-- of a whole column
+pub runs-most : (column : List ℤ) → length (runs column) ≤ length column
+unfolding runs
+runs-most [] = le-refl 0
+runs-most (v ∷ vs) = runsFrom-most v 1 vs
+
+-- `run_length_body_bytes`: at most 20 bytes a value
+pub runBytes-most : (column : List ℤ) → total (map runLen (runs column)) ≤ 20 * length column
+runBytes-most column = omega (arith, total-most runLen 20 (runs column) runLen-le, runs-most column)
+
+-- a dictionary's entries: at most 10 bytes each
+pub gapsLen-most : (last : ℤ) (es : List ℤ) → gapsLen last es ≤ 10 * length es
+unfolding gapsLen
+gapsLen-most last [] = omega arith
+gapsLen-most last (e ∷ es) = omega (arith, uvarintLen-le (gap last e), gapsLen-most e es)
+
+-- the first entry too
+pub entriesLen-most : (es : List ℤ) → entriesLen es ≤ 10 * length es
+unfolding entriesLen
+entriesLen-most [] = omega arith
+entriesLen-most (e ∷ es) = omega (arith, varintLen-le e, gapsLen-most e es)
+
+-- the width of codes: at most 64
+pub codeWidth-le : (entries : ℕ) → codeWidth entries ≤ 64
+unfolding codeWidth
+codeWidth-le entries = width-le (entries - 1)
+
+-- and at most 14 where Dictionary is written
+pub codeWidth-few : (entries : ℕ) → entries ≤ maxDictionaryCardinality → codeWidth entries ≤ 14
+unfolding codeWidth
+codeWidth-few entries h = width-least (entries - 1) 14 (omega arith)
+
+-- the header: 3 bytes at least
+pub headerLen-some : (n : ℕ) → 3 ≤ headerLen n
+unfolding headerLen
+headerLen-some n = omega (arith, uvarintLen-pos n)
+
+-- a count's varint: at most 4 bytes
+pub countLen-most : (n : ℕ) → n ≤ maxChunkElements → uvarintLen n ≤ 4
+countLen-most n h = uvarintLen-least n 4 (omega arith) (omega arith)
+
+-- the whole header: at most 6
+pub headerLen-most : (n : ℕ) → n ≤ maxChunkElements → headerLen n ≤ 6
+unfolding headerLen
+headerLen-most n h = omega (arith, countLen-most n h)
+
+-- ---- the estimates of a column of up to 2^24 values, each
+
+module _ (column : List ℤ) (size : length column ≤ maxChunkElements) where
+  -- Plain
+  pub plain-most : lengthIn (estimatesOf column) Plain ≤ 6 + 8 * length column
+  plain-most = rw plain-estimate (omega (arith, headerLen-most (length column) size))
+
+  -- Varint
+  pub varint-most : lengthIn (estimatesOf column) Varint ≤ 6 + 10 * length column
+  varint-most = rw varint-estimate (omega (arith, headerLen-most (length column) size, varintBytes-most column))
+
+  -- BitPacked
+  pub bitPacked-most : lengthIn (estimatesOf column) BitPacked ≤ 7 + 8 * length column
+  bitPacked-most =
+      let w : ℕ = width (largest (map zigzag column)) in
+      rw bitPacked-estimate (omega (arith, headerLen-most (length column) size, packedLen-most (length column) w (width-le (largest (map zigzag column)))))
+
+  -- FrameOfReference
+  pub frame-most : lengthIn (estimatesOf column) FrameOfReference ≤ 15 + 8 * length column
+  frame-most =
+      let s : ℕ = gap (least column) (greatest column) in
+      rw frame-estimate (omega (arith, headerLen-most (length column) size, packedLen-most (length column) (width s) (width-le s)))
+
+  -- RunLength
+  pub runLength-most : lengthIn (estimatesOf column) RunLength ≤ 10 + 20 * length column
+  runLength-most =
+      rw runLength-estimate
+      (omega (arith, headerLen-most (length column) size, countLen-most (length (runs column)) (le-trans (runs-most column) size), runBytes-most column))
+
+  -- Dictionary, available or not
+  pub dictionary-most : lengthIn (estimatesOf column) Dictionary ≤ 11 + 18 * length column
+  dictionary-most = go (decLe (length (distinct column)) maxDictionaryCardinality)
+    where
+      go : Dec (length (distinct column) ≤ maxDictionaryCardinality) → lengthIn (estimatesOf column) Dictionary ≤ 11 + 18 * length column
+      go (yes few) =
+          let d : ℕ = length (distinct column) in
+          rw (dictionary-estimate column few)
+          (omega (
+            arith,
+            headerLen-most (length column) size,
+            countLen-most d (le-trans (distinct-most column) size),
+            distinct-most column,
+            entriesLen-most (distinct column),
+            packedLen-most (length column) (codeWidth d) (codeWidth-le d),
+          ))
+      go (no many) = rw (dictionary-none column (omega arith)) (omega arith)
+
+  -- Delta, available or not
+  pub delta-estimate-most : lengthIn (estimatesOf column) DeltaBinaryPacked ≤ 19 + 9 * length column
+  unfolding blockCount
+  delta-estimate-most = go (decLe 2 (length column))
+    where
+      go : Dec (2 ≤ length column) → lengthIn (estimatesOf column) DeltaBinaryPacked ≤ 19 + 9 * length column
+      go (yes two) =
+          let n : ℕ = length column - 1 in
+          let a : ℤ = least (deltas column) in
+          let b : ℤ = greatest (deltas column) in
+          let charge : max (varintLen a) (varintLen b) + 1 ≤ 11 = omega (arith, varintLen-le a, varintLen-le b) in
+          rw (delta-estimate column two)
+          (omega (
+            arith,
+            headerLen-most (length column) size,
+            varintLen-le (getD column 0 (pos 0)),
+            deltaBlockSize-len,
+            mul-le-mul-left (blockCount deltaBlockSize n) charge,
+            packedLen-most n (width (gap a b)) (width-le (gap a b)),
+          ))
+      go (no one) = rw (delta-none column (omega arith)) (omega arith)
+
+  -- any of them: at most 20 bytes a value and 16 more
+  pub estimate-most : (e : Encoding) → lengthIn (estimatesOf column) e ≤ 16 + 20 * length column
+  estimate-most Plain = omega (arith, plain-most)
+  estimate-most Varint = omega (arith, varint-most)
+  estimate-most BitPacked = omega (arith, bitPacked-most)
+  estimate-most FrameOfReference = omega (arith, frame-most)
+  estimate-most RunLength = omega (arith, runLength-most)
+  estimate-most Dictionary = omega (arith, dictionary-most)
+  estimate-most DeltaBinaryPacked = delta-below (decLe 2 (length column))
+    where
+      delta-below : Dec (2 ≤ length column) → lengthIn (estimatesOf column) DeltaBinaryPacked ≤ 16 + 20 * length column
+      delta-below (yes two) = omega (arith, delta-estimate-most)
+      delta-below (no one) = rw (delta-none column (omega arith)) (omega arith)
+
+  -- in numbers: Plain at most 134,217,734
+  pub plain-limit : lengthIn (estimatesOf column) Plain ≤ 134217734
+  plain-limit = omega (arith, plain-most)
+
+  -- any at most 335,544,336, which is below 2 ^ 29
+  pub estimate-limit : (e : Encoding) → lengthIn (estimatesOf column) e ≤ 335544336
+  estimate-limit e = omega (arith, estimate-most e)
+
+-- ---- the other way: no available estimate is 0
+
+-- a header is 3 bytes at least
+pub estimate-some : (column : List ℤ) (e : Encoding) → availableIn (estimatesOf column) e ≡ true → 3 ≤ lengthIn (estimatesOf column) e
+estimate-some column Plain there = rw plain-estimate (omega (arith, headerLen-some (length column)))
+estimate-some column Varint there = rw varint-estimate (omega (arith, headerLen-some (length column)))
+estimate-some column BitPacked there = rw bitPacked-estimate (omega (arith, headerLen-some (length column)))
+estimate-some column FrameOfReference there = rw frame-estimate (omega (arith, headerLen-some (length column)))
+estimate-some column RunLength there = rw runLength-estimate (omega (arith, headerLen-some (length column)))
+estimate-some column Dictionary there = rw (dictionary-estimate column (dictionary-few column there)) (omega (arith, headerLen-some (length column)))
+estimate-some column DeltaBinaryPacked there = rw (delta-estimate column (delta-two column there)) (omega (arith, headerLen-some (length column)))
+
+-- Plain: 3 bytes for the empty column, at least 11 for any other
+pub plain-some : (column : List ℤ) → 1 ≤ length column → 11 ≤ lengthIn (estimatesOf column) Plain
+plain-some column h = rw plain-estimate (omega (arith, headerLen-some (length column)))

@@ -1,0 +1,9 @@
+pub mod Digits
+pub mod Widths
+pub mod Uvarints
+pub mod UvarintRows
+pub mod Keys
+pub mod Order
+pub mod All
+pub mod Extremes
+pub mod Inverses

@@ -1,0 +1,7 @@
+pub mod Best
+pub mod Rounding
+pub mod Fraction
+pub mod Gain
+pub mod Plan
+pub mod Kept
+pub mod Checks

@@ -1,0 +1,4 @@
+pub mod RoundTrip
+pub mod ThirdDemand
+pub mod Fractions
+pub mod Scratch

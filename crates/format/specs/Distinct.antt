@@ -1,0 +1,49 @@
+-- The distinct values of a column, rising, as they are gathered into the scratch (01, "Statistics, estimates, plan").
+use Prim.Native.Nat.{ℕ, suc, min}
+use mathlib.Core.Bool.{Bool, cond}
+use mathlib.Core.List.{List, [], _∷_}
+use lib.IntN.{ℤ}
+use lib.Dec.{leb, ltb}
+use lib.Signed.{ltZ}
+use lib.ListN.{length}
+use Rattle.format.specs.Outcome.{Outcome, check}
+use Rattle.format.specs.Encodings.{maxDictionaryCardinality}
+use Rattle.format.specs.Answers.{stored}
+
+-- v at its place in rising values, if it is not there yet
+unfoldable pub insert : ℤ → List ℤ → List ℤ
+insert v [] = v ∷ []
+insert v (x ∷ xs) = cond (ltZ x v) (x ∷ insert v xs) (cond (ltZ v x) (v ∷ x ∷ xs) (x ∷ xs))
+
+-- "the distinct values rising": a walk in which `held` were met and the rest is still to come
+unfoldable pub distinctFrom : List ℤ → List ℤ → List ℤ
+distinctFrom held [] = held
+distinctFrom held (v ∷ vs) = distinctFrom (insert v held) vs
+
+unfoldable pub distinct : List ℤ → List ℤ
+distinct column = distinctFrom [] column
+
+-- more than 16,384 of them?
+unfoldable pub tooManyDistinct : List ℤ → Bool
+tooManyDistinct column = ltb maxDictionaryCardinality (length (distinct column))
+
+-- "of more than 16,384, the first 16,384 met": the same walk, which takes no value in once 16,384 are held
+unfoldable pub cappedDistinctFrom : List ℤ → List ℤ → List ℤ
+cappedDistinctFrom held [] = held
+cappedDistinctFrom held (v ∷ vs) = cappedDistinctFrom (cond (ltb (length held) maxDictionaryCardinality) (insert v held) held) vs
+
+unfoldable pub cappedDistinct : List ℤ → List ℤ
+cappedDistinct column = cappedDistinctFrom [] column
+
+-- "scratch of min(count, 16,384)? 22", at 0
+unfoldable pub scratchCheck : List ℤ → ℕ → Outcome (Unit {0})
+scratchCheck column room = check (leb (min (length column) maxDictionaryCardinality) room) 22 0
+
+-- "the distinct values rising (of more than 16,384, the first 16,384 met), then old contents"
+unfoldable pub collected : List ℤ → List ℤ → List ℤ
+collected column scratch = stored (cappedDistinct column) scratch
+
+-- the place of v among rising values: how many are less
+unfoldable pub codeOf : List ℤ → ℤ → ℕ
+codeOf [] v = 0
+codeOf (x ∷ xs) v = cond (ltZ x v) (suc (codeOf xs v)) 0

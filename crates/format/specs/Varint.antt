@@ -1,0 +1,101 @@
+-- Varints (01, "Numbers as bytes"): written shortest; read in any form of up to ten bytes.
+use Prim.Native.Nat.{ℕ, zero, suc, _+_, _-_, _/_, _%_, _^_, max}
+use mathlib.Core.Bool.{Bool, true, false, cond, not, _||_}
+use mathlib.Core.List.{List, [], _∷_, map}
+use mathlib.Core.Option.{Option, none, some}
+use lib.IntN.{ℤ}
+use lib.Dec.{ltb, eqb}
+use lib.ListN.{getD, drop}
+use lib.Seq.{slice}
+use lib.Count.{leadingZeros}
+use Rattle.format.specs.Outcome.{Outcome, refused, ok, _>>=_, valueOr}
+use Rattle.format.specs.Digits.{ofDigits, digits}
+use Rattle.format.specs.Keys.{zigzag}
+
+-- "The width of a number is 64 less its leading zeros: 0 for 0, 64 at most."
+unfoldable pub width : ℕ → ℕ
+width x = 64 - leadingZeros 64 x
+
+-- ---- writing
+
+-- how many 7-bit groups the shortest form of x has: one at least
+unfoldable pub uvarintLen : ℕ → ℕ
+uvarintLen x = max 1 ((width x + 6) / 7)
+
+-- "top bit set on all but the last byte"
+unfoldable pub continued : List ℕ → List ℕ
+continued [] = []
+continued (g ∷ []) = g ∷ []
+continued (g ∷ h ∷ gs) = (g + 128) ∷ continued (h ∷ gs)
+
+-- "7-bit groups, lowest first, top bit set on all but the last byte. Written shortest"
+unfoldable pub uvarintBytes : ℕ → List ℕ
+uvarintBytes x = continued (digits 128 (uvarintLen x) x)
+
+-- "A signed varint is the varint of the ZigZag."
+unfoldable pub varintLen : ℤ → ℕ
+varintLen v = uvarintLen (zigzag v)
+
+unfoldable pub varintBytes : ℤ → List ℕ
+varintBytes v = uvarintBytes (zigzag v)
+
+-- ---- reading
+
+-- The place just after the varint that begins at `start`: a walk, whose next byte is the first of `rest` and stands at `at`; `left` more bytes may
+-- come. "next byte there? 6; is it no eleventh byte? 7; both at the varint's start."
+unfoldable pub uvarintEnd : ℕ → ℕ → List ℕ → ℕ → Outcome ℕ
+uvarintEnd start left [] at = refused 6 start
+uvarintEnd start zero (b ∷ rest) at = refused 7 start
+uvarintEnd start (suc left) (b ∷ rest) at = cond (ltb b 128) (ok (at + 1)) (uvarintEnd start left rest (at + 1))
+
+-- "Its value is the sum modulo 2^64": of the bytes from one place to another, without their top bits
+unfoldable pub uvarintValue : List ℕ → ℕ → ℕ → ℕ
+uvarintValue s from to = ofDigits 128 (map (λ b. b % 128) (slice from to s)) % 2 ^ 64
+
+-- "does every varint read end on a nonzero byte, or have one byte?"
+unfoldable pub endsUnpadded : List ℕ → ℕ → ℕ → Bool
+endsUnpadded s from to = eqb to (from + 1) || not (eqb (getD s (to - 1) 0) 0)
+
+-- what reading a varint finds: its value, the place after it, and whether it is tight, as strict reading asks
+pub record UvarintRead : Type 0 where
+  pub value : ℕ
+  pub next : ℕ
+  pub unpadded : Bool
+
+-- reading the varint that begins at a place of s, past its end or not
+unfoldable pub readUvarint : List ℕ → ℕ → Outcome UvarintRead
+readUvarint s at = do
+  next ← uvarintEnd at 10 (drop at s) at
+  ok (record { value = uvarintValue s at next; next = next; unpadded = endsUnpadded s at next })
+
+-- the same where it was read before; elsewhere a stand-in
+unfoldable pub uvarintAt : List ℕ → ℕ → UvarintRead
+uvarintAt s at = valueOr (record { value = 0; next = 0; unpadded = true }) (readUvarint s at)
+
+-- ---- reading on: where a part ends, and the first varint so far that is not tight (25's offset)
+
+pub record Extent : Type 0 where
+  pub end : ℕ
+  pub padded : Option ℕ
+
+-- the first loose varint, when the one at `at` is read too
+abbrev pub firstPadded : Option ℕ → ℕ → Bool → Option ℕ
+firstPadded (some first) at unpadded = some first
+firstPadded none at true = none
+firstPadded none at false = some at
+
+-- n varints in a row: a walk from `at` on
+unfoldable pub validateUvarints : List ℕ → ℕ → ℕ → Option ℕ → Outcome Extent
+validateUvarints s at zero padded = ok (record { end = at; padded = padded })
+validateUvarints s at (suc n) padded = do
+  v ← readUvarint s at
+  validateUvarints s (v .next) n (firstPadded padded at (v .unpadded))
+
+-- n varints in a row from `at` on, where they were read before: their values, and the place after them
+unfoldable pub uvarintValues : List ℕ → ℕ → ℕ → List ℕ
+uvarintValues s at zero = []
+uvarintValues s at (suc n) = uvarintAt s at .value ∷ uvarintValues s (uvarintAt s at .next) n
+
+unfoldable pub afterUvarints : List ℕ → ℕ → ℕ → ℕ
+afterUvarints s at zero = at
+afterUvarints s at (suc n) = afterUvarints s (uvarintAt s at .next) n

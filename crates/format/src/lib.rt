@@ -1,0 +1,94 @@
+// The types of the format's answers (document 01, "Questions at the counter" and "Statistics, estimates, plan").
+// There is no function here. What the calls answer is defined in specs/, over these types.
+
+// The seven integer encodings, in the order of their ids, 1 to 7.
+pub enum Encoding {
+    Plain,
+    Varint,
+    BitPacked,
+    FrameOfReference,
+    RunLength,
+    Dictionary,
+    DeltaBinaryPacked,
+}
+
+pub enum Sortedness {
+    Constant,
+    Ascending,
+    Descending,
+    Unsorted,
+}
+
+pub enum Cardinality {
+    Exact(usize),
+    AtLeast(usize),
+}
+
+pub enum PlanReason {
+    Empty,
+    CompressionDisabled,
+    SmallestEstimate,
+    GainBelowThreshold,
+}
+
+// Accepted, with the count of values or bytes stored; or refused, with a number and an offset.
+pub enum Answer {
+    Accepted(usize),
+    Refused(u32, usize),
+}
+
+// A varint alone: its value and the place after it; or refused, with a number and an offset.
+pub enum UvarintAnswer {
+    Read(u64, usize),
+    Malformed(u32, usize),
+}
+
+// The fields of `IntegerStats` but the distinct values.
+pub struct IntegerStats {
+    pub count: usize,
+    pub first: i64,
+    pub min: i64,
+    pub max: i64,
+    pub run_count: usize,
+    pub sortedness: Sortedness,
+    pub cardinality: Cardinality,
+    pub value_span: u64,
+    pub max_zigzag: u64,
+    pub varint_body_bytes: usize,
+    pub run_length_body_bytes: usize,
+    pub delta_min: i64,
+    pub delta_max: i64,
+    pub delta_span: u64,
+}
+
+// The seven candidate lengths in the order of the ids, and which of them are available.
+pub struct SizeEstimates {
+    pub lengths: [usize; 7],
+    pub available: [bool; 7],
+}
+
+pub struct EncodingPlan {
+    pub encoding: Encoding,
+    pub estimated_bytes: usize,
+    pub plain_bytes: usize,
+    pub reason: PlanReason,
+    pub run_density: f64,
+    pub estimated_ratio: f64,
+    pub estimates: SizeEstimates,
+}
+
+// What a call for statistics, for estimates or for a plan gives: its answer, and the record.
+pub struct StatsAnswer {
+    pub answer: Answer,
+    pub stats: IntegerStats,
+}
+
+pub struct EstimatesAnswer {
+    pub answer: Answer,
+    pub estimates: SizeEstimates,
+}
+
+pub struct PlanAnswer {
+    pub answer: Answer,
+    pub plan: EncodingPlan,
+}
