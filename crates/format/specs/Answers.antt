@@ -1,4 +1,5 @@
--- Answers: this paper's number and values for each case, what a list of questions answers, and what a buffer holds after it.
+-- Answers (01, "Questions at the counter"): "An answer is accepted, with the count of values or bytes stored, or a number with an offset, count 0."
+-- "Accepted: the values, or in writing the chunk, fill the buffer's front; the rest is untouched."
 use Prim.Native.Nat.{ℕ}
 use mathlib.Core.List.{List, _++_}
 use lib.ListN.{length, drop}
@@ -6,7 +7,7 @@ use Rattle.format.specs.Outcome.{Outcome, refused, ok}
 use Rattle.format.specs.declared.Answer.{Answer}
 use Rattle.format.specs.declared.Answer.the-variants.{Accepted, Refused}
 
--- this paper's number of an answer (0: accepted), its offset, and its count: "accepted, with the count .., or a number with an offset, count 0"
+-- "Where an answer is an enum, a definition gives this paper's number and values for each of its cases": the number (0: accepted), the offset, the count
 abbrev pub numberOf : Answer → ℕ
 numberOf (Accepted count) = 0
 numberOf (Refused number offset) = number

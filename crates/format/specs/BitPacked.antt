@@ -1,4 +1,4 @@
--- 3. BitPacked: "width byte, packed ZigZags."
+-- 3. BitPacked (01, "The chunk"): "width byte, packed ZigZags."
 use Prim.Native.Nat.{ℕ, _+_}
 use mathlib.Core.List.{List, _∷_, map}
 use mathlib.Core.Option.{Option}
@@ -6,7 +6,8 @@ use lib.IntN.{ℤ}
 use lib.ListN.{getD}
 use Rattle.format.specs.Outcome.{Outcome, ok, _>>=_}
 use Rattle.format.specs.Keys.{zigzag, unzigzag}
-use Rattle.format.specs.Varint.{Extent, width}
+use Rattle.format.specs.Varint.{Extent}
+use Rattle.format.specs.Width.{width}
 use Rattle.format.specs.Packing.{packed, widthAt, packedEnd, packedValues}
 use Rattle.format.specs.Folds.{largest}
 

@@ -1,4 +1,5 @@
--- The seven layouts, by the encoding: what a chunk is, and what its body's reading asks and gives.
+-- The chunk, over the seven layouts (01, "The chunk"; "Questions at the counter", "In layout order"): what writing stores, what reading a body asks, and
+-- which values it gives.
 use Prim.Native.Nat.{ℕ}
 use mathlib.Core.List.{List, _++_}
 use mathlib.Core.Option.{Option}
@@ -32,7 +33,8 @@ bodyOf DeltaBinaryPacked column = deltaBody column
 unfoldable pub chunkOf : Encoding → List ℤ → List ℕ
 chunkOf encoding column = headerBytes (idOf encoding) (length column) ++ bodyOf encoding column
 
--- reading a body of `count` values that starts at `start` of the chunk s: where it ends, and the first loose varint
+-- reading a body of `count` values that starts at `start` of the chunk s: where it ends, and the first padded varint. `padded` is the one that
+-- the header found
 unfoldable pub validateBody : Encoding → List ℕ → ℕ → ℕ → Option ℕ → Outcome Extent
 validateBody Plain s start count padded = validatePlain s start count padded
 validateBody Varint s start count padded = validateVarintBody s start count padded

@@ -1,4 +1,4 @@
--- 7. DeltaBinaryPacked: "with count 0 nothing more. Else first value, block size (written 128), then per block of deltas: least delta as signed
+-- 7. DeltaBinaryPacked (01, "The chunk"): "with count 0 nothing more. Else first value, block size (written 128), then per block of deltas: least delta as signed
 -- varint, width byte, packed offsets. The last block may be shorter."
 use Prim.Native.Nat.{ℕ, zero, suc, _+_, _-_, _/_, _^_, min}
 use mathlib.Core.List.{List, [], _∷_, _++_, map}

@@ -1,16 +1,19 @@
--- 6. Dictionary: "entry total; first entry as a signed varint; gaps as varints; width byte; packed codes."
-use Prim.Native.Nat.{ℕ, _+_, _-_}
-use mathlib.Core.Bool.{Bool, true, _&&_}
+-- 6. Dictionary (01, "The chunk"): "entry total; first entry as a signed varint; gaps as varints; width byte; packed codes. Written entries are the distinct
+-- values, rising. No entries: only total and width."
+use Prim.Native.Nat.{ℕ, suc, _+_, _-_}
+use mathlib.Core.Bool.{Bool, true, cond, _&&_}
 use mathlib.Core.List.{List, [], _∷_, _++_, map}
 use mathlib.Core.Option.{Option}
 use lib.IntN.{ℤ, pos}
 use lib.Dec.{leb, ltb}
+use lib.Signed.{ltZ}
 use lib.ListN.{length, getD}
 use Rattle.format.specs.Outcome.{Outcome, ok, check, _>>=_}
 use Rattle.format.specs.Keys.{gap, wrappingAdd, unzigzag}
-use Rattle.format.specs.Varint.{Extent, width, uvarintBytes, varintBytes, readUvarint, uvarintAt, firstPadded, validateUvarints, uvarintValues, afterUvarints}
+use Rattle.format.specs.Varint.{Extent, uvarintBytes, varintBytes, readUvarint, uvarintAt, firstPadded, validateUvarints, uvarintValues, afterUvarints}
+use Rattle.format.specs.Width.{width}
 use Rattle.format.specs.Packing.{packed, widthAt, packedEnd, packedValues}
-use Rattle.format.specs.Distinct.{distinct, codeOf}
+use Rattle.format.specs.Distinct.{distinct}
 
 -- ---- writing
 
@@ -19,10 +22,15 @@ unfoldable pub gapBytes : ℤ → List ℤ → List ℕ
 gapBytes last [] = []
 gapBytes last (e ∷ es) = uvarintBytes (gap last e) ++ gapBytes e es
 
--- "first entry as a signed varint; gaps as varints". "No entries": nothing
+-- "first entry as a signed varint; gaps as varints", and of no entries nothing
 unfoldable pub entryBytes : List ℤ → List ℕ
 entryBytes [] = []
 entryBytes (e ∷ es) = varintBytes e ++ gapBytes e es
+
+-- a value's code, its place among rising entries: how many of them are less
+unfoldable pub codeOf : List ℤ → ℤ → ℕ
+codeOf [] v = 0
+codeOf (e ∷ es) v = cond (ltZ e v) (suc (codeOf es v)) 0
 
 -- "for codes, of entries less one": the width for so many entries
 unfoldable pub codeWidth : ℕ → ℕ

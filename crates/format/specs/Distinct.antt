@@ -1,5 +1,6 @@
--- The distinct values of a column, rising, as they are gathered into the scratch (01, "Statistics, estimates, plan").
-use Prim.Native.Nat.{ℕ, suc, min}
+-- The distinct values of a column, rising, as they are collected in the scratch (01, "Statistics, estimates, plan": "Scratch after a call ..: the distinct
+-- values rising (of more than 16,384, the first 16,384 met), then old contents").
+use Prim.Native.Nat.{ℕ, min}
 use mathlib.Core.Bool.{Bool, cond}
 use mathlib.Core.List.{List, [], _∷_}
 use lib.IntN.{ℤ}
@@ -35,15 +36,14 @@ cappedDistinctFrom held (v ∷ vs) = cappedDistinctFrom (cond (ltb (length held)
 unfoldable pub cappedDistinct : List ℤ → List ℤ
 cappedDistinct column = cappedDistinctFrom [] column
 
+-- "scratch of min(count, 16,384)": how many places are needed
+abbrev pub scratchNeeded : List ℤ → ℕ
+scratchNeeded column = min (length column) maxDictionaryCardinality
+
 -- "scratch of min(count, 16,384)? 22", at 0
 unfoldable pub scratchCheck : List ℤ → ℕ → Outcome (Unit {0})
-scratchCheck column room = check (leb (min (length column) maxDictionaryCardinality) room) 22 0
+scratchCheck column room = check (leb (scratchNeeded column) room) 22 0
 
 -- "the distinct values rising (of more than 16,384, the first 16,384 met), then old contents"
 unfoldable pub collected : List ℤ → List ℤ → List ℤ
 collected column scratch = stored (cappedDistinct column) scratch
-
--- the place of v among rising values: how many are less
-unfoldable pub codeOf : List ℤ → ℤ → ℕ
-codeOf [] v = 0
-codeOf (x ∷ xs) v = cond (ltZ x v) (suc (codeOf xs v)) 0

@@ -1,4 +1,4 @@
--- The encodings' ids and ranks, and the limits.
+-- The encodings and the limits (01, "The chunk", "Statistics, estimates, plan" and "Questions at the counter").
 use Prim.Native.Nat.{ℕ, _-_, _^_}
 use mathlib.Core.Bool.{Bool, _&&_}
 use mathlib.Core.List.{List, [], _∷_}
@@ -27,7 +27,7 @@ encodings = Plain ∷ Varint ∷ BitPacked ∷ FrameOfReference ∷ RunLength �
 unfoldable pub encodingOf : ℕ → Encoding
 encodingOf id = getD encodings (id - 1) Plain
 
--- `decode_cost_rank`
+-- "the lower `decode_cost_rank`": the Rust's ranks
 abbrev pub decodeCostRank : Encoding → ℕ
 decodeCostRank Plain = 0
 decodeCostRank Varint = 5
@@ -37,16 +37,16 @@ decodeCostRank RunLength = 4
 decodeCostRank Dictionary = 3
 decodeCostRank DeltaBinaryPacked = 2
 
--- is n from a to b?
+-- "1 to 7", "1 to 9", "1 to 2^20": is n from a to b?
 abbrev pub within : ℕ → ℕ → ℕ → Bool
 within a b n = leb a n && leb n b
 
 -- ---- limits
 
--- "At most 2^24 values"
+-- "At most 2^24 values": the Rust's `MAX_CHUNK_ELEMENTS`
 abbrev pub maxChunkElements : ℕ
 maxChunkElements = 2 ^ 24
 
--- "at most 16,384 distinct"
+-- "at most 16,384 distinct": the Rust's `MAX_DICTIONARY_CARDINALITY`
 abbrev pub maxDictionaryCardinality : ℕ
 maxDictionaryCardinality = 16384

@@ -7,7 +7,8 @@ use lib.Dec.{leb}
 use lib.ListN.{length, getD}
 use Rattle.format.specs.Outcome.{Outcome, refused, ok}
 use Rattle.format.specs.Keys.{gap}
-use Rattle.format.specs.Varint.{width, uvarintLen, varintLen}
+use Rattle.format.specs.Varint.{uvarintLen, varintLen}
+use Rattle.format.specs.Width.{width}
 use Rattle.format.specs.Packing.{packedLen}
 use Rattle.format.specs.Encodings.{idOf}
 use Rattle.format.specs.Header.{headerLen}

@@ -1,4 +1,4 @@
--- 4. FrameOfReference: "least value (8 bytes), width byte, packed differences from it."
+-- 4. FrameOfReference (01, "The chunk"): "least value (8 bytes), width byte, packed differences from it."
 use Prim.Native.Nat.{ℕ, _+_}
 use mathlib.Core.List.{List, _++_, map}
 use mathlib.Core.Option.{Option}

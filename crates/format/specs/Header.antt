@@ -1,4 +1,4 @@
--- The chunk's header (01, "The chunk" and "Questions at the counter", "Reading").
+-- The chunk's header (01, "The chunk": "Header: id, version 01, count varint"; "Questions at the counter", "Reading", its first paragraph).
 use Prim.Native.Nat.{ℕ, _+_}
 use mathlib.Core.Bool.{_&&_}
 use mathlib.Core.List.{List, _∷_}
@@ -9,13 +9,17 @@ use Rattle.format.specs.Outcome.{Outcome, ok, check, _>>=_}
 use Rattle.format.specs.Varint.{uvarintLen, uvarintBytes, readUvarint, firstPadded}
 use Rattle.format.specs.Encodings.{within, maxChunkElements}
 
+-- ---- writing
+
 -- "Header: id, version 01, count varint."
 unfoldable pub headerBytes : ℕ → ℕ → List ℕ
-headerBytes id count = id ∷ 1 ∷ uvarintBytes count
+headerBytes id count = id ∷ 0x01 ∷ uvarintBytes count
 
 -- its length
 unfoldable pub headerLen : ℕ → ℕ
 headerLen count = 2 + uvarintLen count
+
+-- ---- reading
 
 -- a reading names its encoding, by any number, or does not
 pub data Naming : Type 0 where
@@ -38,7 +42,7 @@ readId (named name) s = do
   _ ← check (eqb (getD s 0 0) name) 4 0
   ok (getD s 0 0)
 
--- what a header says: the id, the count, where the body starts, and the first loose varint so far
+-- what a header says: the id, the count, where the body starts; and the first padded varint so far
 pub record Header : Type 0 where
   pub id : ℕ
   pub count : ℕ

@@ -1,12 +1,21 @@
--- Keys: integers from -2^63 to 2^63 - 1, their arithmetic modulo 2^64, their eight bytes, and ZigZag.
-use Prim.Native.Nat.{ℕ, suc, _+_, _-_, _*_, _/_, _%_, _^_}
+-- Keys, "signed 64-bit" numbers (the mission's "column"): integers from -2^63 to 2^63 - 1, their arithmetic modulo 2^64, their eight bytes, and ZigZag
+-- (01, "Numbers as bytes": "ZigZag of v is 2·v for v of 0 or more, else −2·v − 1. The smallest key gives 2^64 − 1").
+use Prim.Native.Nat.{ℕ, suc, _+_, _-_, _*_, _/_, _%_, _^_, _<_}
 use mathlib.Core.Bool.{Bool, false, cond}
 use mathlib.Core.List.{List}
 use lib.IntN.{ℤ, pos, negsuc, _+ℤ_, _-ℤ_}
 use lib.Dec.{ltb, eqb}
-use lib.Signed.{ltZ}
-use lib.ListN.{take, drop}
+use lib.Signed.{mag, ltZ}
+use lib.ListN.{length, getD, take, drop}
 use Rattle.format.specs.Digits.{digits, ofDigits}
+
+-- v is a key: from -2^63 to 2^63 - 1 (`mag z` is n for n and for -n - 1)
+abbrev pub Key : ℤ → Type 0
+Key v = mag v < 2 ^ 63
+
+-- every value of a column is a key
+abbrev pub Keys : List ℤ → Type 0
+Keys column = (i : ℕ) → i < length column → Key (getD column i (pos 0))
 
 -- "modulo 2^64": the number from 0 to 2^64 - 1 that differs from z by a multiple of 2^64
 abbrev pub residue : ℤ → ℕ
@@ -17,7 +26,7 @@ residue (negsuc n) = 2 ^ 64 - suc (n % 2 ^ 64)
 unfoldable pub asSigned : ℕ → ℤ
 asSigned n = cond (ltb n (2 ^ 63)) (pos n) (negsuc (2 ^ 64 - suc n))
 
--- b less a, modulo 2^64: a difference, a gap, a span
+-- b less a, modulo 2^64: a gap, a "difference" from the least value, a span
 unfoldable pub gap : ℤ → ℤ → ℕ
 gap a b = residue (b -ℤ a)
 
@@ -25,7 +34,7 @@ gap a b = residue (b -ℤ a)
 unfoldable pub delta : ℤ → ℤ → ℤ
 delta a b = asSigned (gap a b)
 
--- "every sum on reading wraps"
+-- a + b, by "every sum on reading wraps": the Rust's `wrapping_add`
 unfoldable pub wrappingAdd : ℤ → ℤ → ℤ
 wrappingAdd a b = asSigned (residue (a +ℤ b))
 

@@ -1,6 +1,7 @@
 pub mod Outcome
 pub mod Digits
 pub mod Keys
+pub mod Width
 pub mod Varint
 pub mod Packing
 pub mod Folds

@@ -1,8 +1,8 @@
--- The question list (01, "Questions at the counter"): "The first 'no' decides."
+-- A list of questions and its outcome (01, "Questions at the counter"): "The first 'no' decides."
 use Prim.Native.Nat.{ℕ}
 use mathlib.Core.Bool.{Bool, true, false}
 
--- A list of questions, so far: refused, with this paper's number and the offset, or still going, with what was found.
+-- The outcome of a list of questions: refused, with 01's number and the offset, or passed, with what was found.
 pub data Outcome {ℓ} (A : Type ℓ) : Type ℓ where
   refused : ℕ → ℕ → Outcome A
   ok : A → Outcome A
@@ -18,7 +18,7 @@ abbrev pub check : Bool → ℕ → ℕ → Outcome (Unit {0})
 check true number offset = ok tt
 check false number offset = refused number offset
 
--- What was found, or a stand-in where the list was refused. Only for what is read again after it was once found.
+-- What was found, or another value where the list was refused. It serves for what is read again after it was once found.
 abbrev pub valueOr {ℓ} : {A : Type ℓ} → A → Outcome A → A
 valueOr other (refused number offset) = other
 valueOr other (ok found) = found

@@ -1,4 +1,5 @@
--- Bit packing (01, "Numbers as bytes").
+-- Bit packing (01, "Numbers as bytes"): "Packing puts value i at bit i·width, lowest bit of a byte first, spare top bits zero. Packed length is
+-- count·width/8 rounded up. Packing drops bits above the width; reading ignores spare bits."
 use Prim.Native.Nat.{ℕ, _+_, _-_, _*_, _/_, _%_, _^_}
 use mathlib.Core.List.{List, map}
 use lib.Dec.{leb, ltb}

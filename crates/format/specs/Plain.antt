@@ -1,4 +1,4 @@
--- 1. Plain: "8 bytes a value, little-endian."
+-- 1. Plain (01, "The chunk"): "8 bytes a value, little-endian."
 use Prim.Native.Nat.{ℕ, zero, suc, _+_, _-_, _*_}
 use mathlib.Core.List.{List, [], _∷_, _++_}
 use mathlib.Core.Option.{Option}

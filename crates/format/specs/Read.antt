@@ -1,4 +1,4 @@
--- Reading a chunk (01, "Questions at the counter", "Reading" and "Strict reading").
+-- Reading a chunk (01, "Questions at the counter": "Reading", and "Strict reading").
 use Prim.Native.Nat.{ℕ}
 use mathlib.Core.Bool.{Bool, true, false}
 use mathlib.Core.List.{List}
@@ -14,7 +14,7 @@ use Rattle.format.specs.Header.{Naming, Header, readHeader}
 use Rattle.format.specs.Chunk.{validateBody, bodyValues}
 use Rattle.format.specs.declared.Answer.{Answer}
 
--- what the questions up to the body's end find: the header, and where the body ends
+-- what the questions up to the body's end find: the header, and the body's extent
 pub record Validated : Type 0 where
   pub header : Header
   pub body : Extent
@@ -31,7 +31,7 @@ abbrev pub noPadding : Option ℕ → Outcome (Unit {0})
 noPadding none = ok tt
 noPadding (some start) = refused 25 start
 
--- "Strict reading, named or not, puts after all but 20": 25, and "Does the chunk end with its body? 26, first byte over."
+-- "Strict reading, named or not, puts after all but 20": 25, then "Does the chunk end with its body? 26, first byte over."
 unfoldable pub strictChecks : Bool → List ℕ → Extent → Outcome (Unit {0})
 strictChecks false s b = ok tt
 strictChecks true s b = do
@@ -41,19 +41,19 @@ strictChecks true s b = do
 -- The whole list, for a column buffer of `room` places. "Last: column buffer long enough? 20, offset the length needed."
 unfoldable pub readOutcome : Bool → Naming → List ℕ → ℕ → Outcome Validated
 readOutcome strict naming s room = do
-  f ← validate naming s
-  _ ← strictChecks strict s (f .body)
-  _ ← check (leb (f .header .count) room) 20 (f .header .count)
-  ok f
+  c ← validate naming s
+  _ ← strictChecks strict s (c .body)
+  _ ← check (leb (c .header .count) room) 20 (c .header .count)
+  ok c
 
 -- the values of a chunk that was read
 unfoldable pub valuesOf : List ℕ → Validated → List ℤ
-valuesOf s f = bodyValues (encodingOf (f .header .id)) s (f .header .start) (f .header .count)
+valuesOf s c = bodyValues (encodingOf (c .header .id)) s (c .header .start) (c .header .count)
 
 -- THE ANSWER of reading the chunk s into a column buffer of `room` places: accepted, with the count of values
 unfoldable pub readAnswer : Bool → Naming → List ℕ → ℕ → Answer
-readAnswer strict naming s room = answerOf (readOutcome strict naming s room >>= λ f. ok (f .header .count))
+readAnswer strict naming s room = answerOf (readOutcome strict naming s room >>= λ c. ok (c .header .count))
 
 -- THE COLUMN BUFFER after that. "Accepted: the values .. fill the buffer's front; the rest is untouched."
 unfoldable pub readColumn : Bool → Naming → List ℕ → List ℤ → List ℤ
-readColumn strict naming s column = bufferAfter (readOutcome strict naming s (length column) >>= λ f. ok (valuesOf s f)) column
+readColumn strict naming s column = bufferAfter (readOutcome strict naming s (length column) >>= λ c. ok (valuesOf s c)) column

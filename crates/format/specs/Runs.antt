@@ -1,4 +1,4 @@
--- 5. RunLength: "run total, then per run a signed varint and a length. Written runs are longest possible; a zero length is read."
+-- 5. RunLength (01, "The chunk"): "run total, then per run a signed varint and a length. Written runs are longest possible; a zero length is read."
 use Prim.Native.Nat.{ℕ, zero, suc, _+_, _-_}
 use mathlib.Core.Bool.{cond}
 use mathlib.Core.List.{List, [], _∷_, _++_}
@@ -17,8 +17,8 @@ pub record Run : Type 0 where
   pub key : ℤ
   pub times : ℕ
 
--- the longest possible runs: a walk in which `key` has been met `times` times in a row and the rest is still to come. Another value ends the run.
--- (One recursive call, since antt would compute both of two.)
+-- "Written runs are longest possible": a walk in which `key` has been met `times` times in a row and the rest is still to come. Another value ends the
+-- run. (There is one recursive call, since antt would compute both of two.)
 unfoldable pub runsFrom : ℤ → ℕ → List ℤ → List Run
 runsFrom key times [] = record { key = key; times = times } ∷ []
 runsFrom key times (v ∷ vs) =

@@ -7,16 +7,16 @@ use lib.IntN.{ℤ, pos, negsuc}
 use lib.ListN.{length, getD}
 use borrow.Author.Tests.{lt-ltb, le-leb, lt-leb}
 use Rattle.format.specs.Outcome.{refused, ok}
-use Rattle.format.specs.Keys.{zigzag}
-use Rattle.format.specs.Varint.{uvarintBytes, readUvarint}
-use Rattle.format.specs.Header.{Naming, unnamed, named, Header}
-use Rattle.format.specs.Chunk.{chunkOf}
-use Rattle.format.specs.Read.{readAnswer, readColumn}
-use Rattle.format.specs.Plan.{planOf, planAnswer, planChecks}
+use Rattle.format.specs.Keys.{zigzag, asSigned, gap, delta, wrappingAdd, lesser, greater, keyBytes, keyAt, unzigzag}
+use Rattle.format.specs.Varint.{uvarintBytes, readUvarint, uvarintLen, continued, varintLen, varintBytes, uvarintEnd, uvarintValue, endsUnpadded, uvarintAt, validateUvarints, uvarintValues}
+use Rattle.format.specs.Header.{Naming, unnamed, named, Header, headerBytes, headerLen, readId, readHeader}
+use Rattle.format.specs.Chunk.{chunkOf, bodyOf, validateBody, bodyValues}
+use Rattle.format.specs.Read.{readAnswer, readColumn, validate, strictChecks, readOutcome, valuesOf}
+use Rattle.format.specs.Plan.{planOf, planAnswer, planChecks, beats, bestFrom, best, minimumGain, threshold, meetsGain, reasonOf, runDensity, estimatedRatio, planFrom}
 use Rattle.format.specs.Write.{writeOutcome, writeChecks, writeAnswer, writeOutput, writeScratch}
 use Rattle.format.specs.Standalone.{packOutcome, packAnswer, unpackOutcome, unpackAnswer, uvarintAnswer, uvarintWriteOutcome, uvarintWriteAnswer, uvarintWriteOutput}
-use Rattle.format.specs.Estimates.{estimatesOf}
-use Rattle.format.specs.Statistics.{analysisChecks}
+use Rattle.format.specs.Estimates.{estimatesOf, gapsLen, entriesLen, plainEstimate, varintEstimate, bitPackedEstimate, frameEstimate, runLengthEstimate, dictionaryEstimate, deltaEstimate, estimatesFrom, lengthIn, availableIn}
+use Rattle.format.specs.Statistics.{analysisChecks, nonDecreasing, nonIncreasing, sortednessOf, cardinalityOf, runLen, statsOf, distinctValues}
 use Rattle.format.specs.declared.UvarintAnswer.the-variants.{Malformed}
 use Rattle.format.specs.declared.Encoding.the-variants.{Plain, Varint, BitPacked, RunLength, Dictionary, DeltaBinaryPacked}
 use Rattle.format.specs.declared.PlanReason.the-variants.{GainBelowThreshold}
@@ -24,26 +24,19 @@ use Rattle.format.specs.declared.Answer.the-variants.{Accepted, Refused}
 use lib.Count.{leadingZeros, trailingZeros}
 use lib.Ieee.{round, size, span, climb, units, odd, ofInt, sub, add, sum, neg, mul, div, lt}
 use Rattle.format.specs.Digits.{ofDigits, digits}
-use Rattle.format.specs.Keys.{asSigned, gap, delta, wrappingAdd, lesser, greater, keyBytes, keyAt, unzigzag}
-use Rattle.format.specs.Varint.{width, uvarintLen, continued, varintLen, varintBytes, uvarintEnd, uvarintValue, endsUnpadded, uvarintAt, validateUvarints, uvarintValues}
+use Rattle.format.specs.Width.{width}
 use Rattle.format.specs.Packing.{packedLen, packed, unpacked, widthAt, packedEnd, packedValues}
 use Rattle.format.specs.Folds.{leastFrom, least, greatestFrom, greatest, largest, total, deltasFrom, deltas}
 use Rattle.format.specs.Encodings.{encodings, encodingOf, maxChunkElements, maxDictionaryCardinality}
 use Rattle.format.specs.Answers.{stored}
-use Rattle.format.specs.Header.{headerBytes, headerLen, readId, readHeader}
 use Rattle.format.specs.Plain.{plainBody}
 use Rattle.format.specs.VarintBody.{varintBody}
 use Rattle.format.specs.BitPacked.{packedBody, bitPackedBody, validateBitPacked, bitPackedValues}
 use Rattle.format.specs.Frame.{frameBody}
 use Rattle.format.specs.Runs.{runsFrom, runs, runBytes, runBody}
-use Rattle.format.specs.Distinct.{insert, distinctFrom, distinct, tooManyDistinct, cappedDistinctFrom, cappedDistinct, scratchCheck, collected, codeOf}
-use Rattle.format.specs.Dictionary.{gapBytes, entryBytes, codeWidth, dictionaryBodyWith, dictionaryBody}
+use Rattle.format.specs.Distinct.{insert, distinctFrom, distinct, tooManyDistinct, cappedDistinctFrom, cappedDistinct, scratchCheck, collected}
+use Rattle.format.specs.Dictionary.{gapBytes, entryBytes, codeOf, codeWidth, dictionaryBodyWith, dictionaryBody}
 use Rattle.format.specs.Delta.{blockCount, blockBytes, blocksBytes, deltaBody, validateBlocks, validateDelta}
-use Rattle.format.specs.Chunk.{bodyOf, validateBody, bodyValues}
-use Rattle.format.specs.Read.{validate, strictChecks, readOutcome, valuesOf}
-use Rattle.format.specs.Statistics.{nonDecreasing, nonIncreasing, sortednessOf, cardinalityOf, runLen, statsOf, distinctValues}
-use Rattle.format.specs.Estimates.{gapsLen, entriesLen, plainEstimate, varintEstimate, bitPackedEstimate, frameEstimate, runLengthEstimate, dictionaryEstimate, deltaEstimate, estimatesFrom, lengthIn, availableIn}
-use Rattle.format.specs.Plan.{beats, bestFrom, best, minimumGain, threshold, meetsGain, reasonOf, runDensity, estimatedRatio, planFrom}
 
 -- the least and the greatest key
 abbrev pub leastKey : ℤ

@@ -102,12 +102,12 @@ analysisChecks column room = do
   scratchCheck column room
 
 -- statistics: accepted, with the count of values that the scratch's front holds
-abbrev pub analysisAnswer : Outcome (Unit {0}) → List ℤ → StatsAnswer
-analysisAnswer (refused number offset) column = record { answer = Refused number offset; stats = refusedStats }
-analysisAnswer (ok done) column = record { answer = Accepted (length (cappedDistinct column)); stats = statsOf column }
+abbrev pub statsAfterChecks : Outcome (Unit {0}) → List ℤ → StatsAnswer
+statsAfterChecks (refused number offset) column = record { answer = Refused number offset; stats = refusedStats }
+statsAfterChecks (ok done) column = record { answer = Accepted (length (cappedDistinct column)); stats = statsOf column }
 
 unfoldable pub statsAnswer : List ℤ → ℕ → StatsAnswer
-statsAnswer column room = analysisAnswer (analysisChecks column room) column
+statsAnswer column room = statsAfterChecks (analysisChecks column room) column
 
 -- "Scratch after a call for statistics, distinct values, estimates or a plan that was not refused"
 abbrev pub scratchAfter : Outcome (Unit {0}) → List ℤ → List ℤ → List ℤ

@@ -1,15 +1,16 @@
--- The third demand: "a single claim about planning, writing and reading in a row, not one for each." A statement; it is proved elsewhere.
+-- The third demand (the mission, "The round trip, as one claim"; 01: "a single claim about planning, writing and reading in a row, not one for each").
+-- This file is the statement; proofs/third/ThirdDemand.antt proves it.
 use mathlib.Core.Path.{_≡_}
 use mathlib.Core.Logic.{_≢_}
 use mathlib.Core.Bool.{Bool, true, false}
 use mathlib.Core.List.{List}
-use Prim.Native.Nat.{ℕ, _^_, _≤_, _<_, min}
-use lib.IntN.{ℤ, pos}
-use lib.Signed.{mag}
-use lib.ListN.{length, getD, take}
-use Rattle.format.specs.Encodings.{idOf, maxChunkElements, maxDictionaryCardinality}
+use Prim.Native.Nat.{ℕ, _≤_}
+use lib.IntN.{ℤ}
+use lib.ListN.{length, take}
+use Rattle.format.specs.Keys.{Keys}
+use Rattle.format.specs.Encodings.{idOf, maxChunkElements}
 use Rattle.format.specs.Header.{Naming, unnamed, named}
-use Rattle.format.specs.Distinct.{cappedDistinct}
+use Rattle.format.specs.Distinct.{cappedDistinct, scratchNeeded}
 use Rattle.format.specs.Chunk.{chunkOf}
 use Rattle.format.specs.Write.{writeAnswer, writeOutput}
 use Rattle.format.specs.Read.{readAnswer, readColumn}
@@ -21,18 +22,10 @@ use Rattle.format.specs.declared.PlanReason.the-variants.{GainBelowThres
 use Rattle.format.specs.declared.EncodingPlan.{EncodingPlan}
 use Rattle.format.specs.declared.Answer.the-variants.{Accepted}
 
--- every value is a key: from -2^63 to 2^63 - 1 (`mag z` is n for n and for -n - 1)
-abbrev pub Keys : List ℤ → Type 0
-Keys column = (i : ℕ) → i < length column → mag (getD column i (pos 0)) < 2 ^ 63
-
--- "with the scratch 01 names": so many places are enough for planning, and for writing in any encoding
-abbrev pub scratchNeeded : List ℤ → ℕ
-scratchNeeded column = min (length column) maxDictionaryCardinality
-
--- "strict or not, named by that encoding or not"
+-- "named by that encoding or not"
 pub data NamedFor (encoding : Encoding) : Naming → Type 0 where
-  by-no-name : NamedFor encoding unnamed
-  by-its-name : NamedFor encoding (named (idOf encoding))
+  not-named : NamedFor encoding unnamed
+  named-so : NamedFor encoding (named (idOf encoding))
 
 -- "the bytes that writing stored": so many bytes at the output's front
 abbrev pub chunkStored : Encoding → List ℤ → List ℤ → List ℕ → List ℕ
@@ -40,12 +33,12 @@ chunkStored encoding column scratch output =
     take (length (chunkOf encoding column)) (writeOutput (idOf encoding) column (length scratch) output)
 
 -- What is claimed of a column that is planned at a level with a scratch lent, `lent`, then written in that plan's encoding with a scratch and an output
--- lent, then read from the bytes that writing stored with a column buffer lent. `plan` stands for the plan made.
+-- lent, then read from the bytes that writing stored with a column buffer lent. `plan` is the plan made.
 pub record RoundTrip (column : List ℤ) (level : ℕ) (lent : List ℤ) (plan : EncodingPlan) (scratch : List ℤ) (output : List ℕ) (buffer : List ℤ) : Type 0 where
   -- "None of this is refused": planning answers with the count of distinct values that it stored, writing with the length of the column's chunk,
   pub planned : planAnswer level column (length lent) ≡ record { answer = Accepted (length (cappedDistinct column)); plan = plan }
   pub written : writeAnswer (idOf (plan .encoding)) column (length scratch) (length output) ≡ Accepted (length (chunkOf (plan .encoding) column))
-  -- and reading with the column's count; "and reading gives back exactly its keys in order"
+  -- and reading, "strict or not", with the column's count; "and reading gives back exactly its keys in order"
   pub read :
       (strict : Bool) (naming : Naming) → NamedFor (plan .encoding) naming
       → readAnswer strict naming (chunkStored (plan .encoding) column scratch output) (length buffer) ≡ Accepted (length column)
@@ -77,7 +70,7 @@ pub record RoundTrip (column : List ℤ) (level : ℕ) (lent : List ℤ) (plan :
       → meetsGain level (length (chunkOf Plain column)) (lengthIn (plan .estimates) DeltaBinaryPacked) ≡ false
 
 -- THE THIRD DEMAND. "For every column of up to 2^24 keys and every level 0 to 9, whatever the buffers held before: plan it, write it in the encoding
--- planned, read those bytes .. This holds with the scratch 01 names, output as long as the estimate or longer, and a column buffer as long as the
+-- planned, read those bytes .. This holds with the scratch that 01 names, output as long as the estimate or longer, and a column buffer as long as the
 -- column or longer." The scratch lent to writing may be the one that planning left, or another.
 pub record ThirdDemand : Type 0 where
   pub holds :

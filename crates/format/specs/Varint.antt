@@ -1,4 +1,6 @@
--- Varints (01, "Numbers as bytes"): written shortest; read in any form of up to ten bytes.
+-- Varints (01, "Numbers as bytes"): "A varint is 7-bit groups, lowest first, top bit set on all but the last byte. Its value is the sum modulo 2^64, so a
+-- tenth byte counts by its lowest bit. Written shortest; longer forms up to ten bytes are read."
+-- Names follow the Rust: 01's varint is a `uvarint` here, and 01's signed varint, "the varint of the ZigZag", a `varint`.
 use Prim.Native.Nat.{ℕ, zero, suc, _+_, _-_, _/_, _%_, _^_, max}
 use mathlib.Core.Bool.{Bool, true, false, cond, not, _||_}
 use mathlib.Core.List.{List, [], _∷_, map}
@@ -7,22 +9,18 @@ use lib.IntN.{ℤ}
 use lib.Dec.{ltb, eqb}
 use lib.ListN.{getD, drop}
 use lib.Seq.{slice}
-use lib.Count.{leadingZeros}
 use Rattle.format.specs.Outcome.{Outcome, refused, ok, _>>=_, valueOr}
 use Rattle.format.specs.Digits.{ofDigits, digits}
 use Rattle.format.specs.Keys.{zigzag}
-
--- "The width of a number is 64 less its leading zeros: 0 for 0, 64 at most."
-unfoldable pub width : ℕ → ℕ
-width x = 64 - leadingZeros 64 x
+use Rattle.format.specs.Width.{width}
 
 -- ---- writing
 
--- how many 7-bit groups the shortest form of x has: one at least
+-- "Written shortest": how many 7-bit groups hold x, one at least
 unfoldable pub uvarintLen : ℕ → ℕ
 uvarintLen x = max 1 ((width x + 6) / 7)
 
--- "top bit set on all but the last byte"
+-- "top bit set on all but the last byte": the continuation bits
 unfoldable pub continued : List ℕ → List ℕ
 continued [] = []
 continued (g ∷ []) = g ∷ []
@@ -41,8 +39,8 @@ varintBytes v = uvarintBytes (zigzag v)
 
 -- ---- reading
 
--- The place just after the varint that begins at `start`: a walk, whose next byte is the first of `rest` and stands at `at`; `left` more bytes may
--- come. "next byte there? 6; is it no eleventh byte? 7; both at the varint's start."
+-- The place just after the varint that begins at `start`: a walk whose next byte, at the place `at`, is the first of `rest`; `left` more bytes may come.
+-- "next byte there? 6; is it no eleventh byte? 7; both at the varint's start."
 unfoldable pub uvarintEnd : ℕ → ℕ → List ℕ → ℕ → Outcome ℕ
 uvarintEnd start left [] at = refused 6 start
 uvarintEnd start zero (b ∷ rest) at = refused 7 start
@@ -52,11 +50,11 @@ uvarintEnd start (suc left) (b ∷ rest) at = cond (ltb b 128) (ok (at + 1)) (uv
 unfoldable pub uvarintValue : List ℕ → ℕ → ℕ → ℕ
 uvarintValue s from to = ofDigits 128 (map (λ b. b % 128) (slice from to s)) % 2 ^ 64
 
--- "does every varint read end on a nonzero byte, or have one byte?"
+-- "does every varint read end on a nonzero byte, or have one byte?": no group was added that is 0
 unfoldable pub endsUnpadded : List ℕ → ℕ → ℕ → Bool
 endsUnpadded s from to = eqb to (from + 1) || not (eqb (getD s (to - 1) 0) 0)
 
--- what reading a varint finds: its value, the place after it, and whether it is tight, as strict reading asks
+-- what reading a varint finds: its value, the place after it, and whether it is unpadded
 pub record UvarintRead : Type 0 where
   pub value : ℕ
   pub next : ℕ
@@ -68,17 +66,17 @@ readUvarint s at = do
   next ← uvarintEnd at 10 (drop at s) at
   ok (record { value = uvarintValue s at next; next = next; unpadded = endsUnpadded s at next })
 
--- the same where it was read before; elsewhere a stand-in
+-- the same where it was read before
 unfoldable pub uvarintAt : List ℕ → ℕ → UvarintRead
 uvarintAt s at = valueOr (record { value = 0; next = 0; unpadded = true }) (readUvarint s at)
 
--- ---- reading on: where a part ends, and the first varint so far that is not tight (25's offset)
+-- ---- a part of a chunk: where it ends, and the start of the first padded varint so far, which is 25's offset
 
 pub record Extent : Type 0 where
   pub end : ℕ
   pub padded : Option ℕ
 
--- the first loose varint, when the one at `at` is read too
+-- the first padded varint, when the one at `at` is read too
 abbrev pub firstPadded : Option ℕ → ℕ → Bool → Option ℕ
 firstPadded (some first) at unpadded = some first
 firstPadded none at true = none

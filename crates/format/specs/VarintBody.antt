@@ -1,4 +1,4 @@
--- 2. Varint: "one signed varint each."
+-- 2. Varint (01, "The chunk"): "one signed varint each."
 use Prim.Native.Nat.{ℕ}
 use mathlib.Core.List.{List, [], _∷_, _++_, map}
 use mathlib.Core.Option.{Option}

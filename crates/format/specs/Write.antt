@@ -1,10 +1,11 @@
--- Writing a chunk (01, "Questions at the counter", "Writing").
+-- Writing a chunk (01, "Questions at the counter", "Writing": "encoding 1 to 7? 2, at 0. At most 2^24 values? 21. For Dictionary: scratch of min(count,
+-- 16,384)? 22; at most 16,384 distinct? 23. Output long enough? 20.").
 use Prim.Native.Nat.{ℕ}
+use mathlib.Core.Bool.{not}
 use mathlib.Core.List.{List}
 use lib.IntN.{ℤ}
 use lib.Dec.{leb}
 use lib.ListN.{length}
-use mathlib.Core.Bool.{not}
 use Rattle.format.specs.Outcome.{Outcome, refused, ok, check, _>>=_}
 use Rattle.format.specs.Encodings.{encodingOf, within, maxChunkElements}
 use Rattle.format.specs.Answers.{storedAnswer, bufferAfter}
@@ -14,7 +15,7 @@ use Rattle.format.specs.declared.Answer.{Answer}
 use Rattle.format.specs.declared.Encoding.{Encoding}
 use Rattle.format.specs.declared.Encoding.the-variants.{Plain, Varint, BitPacked, FrameOfReference, RunLength, Dictionary, DeltaBinaryPacked}
 
--- what is asked, or done, for Dictionary and for no other encoding
+-- "For Dictionary": `this` is asked, or done, for Dictionary, and `other` for every other encoding
 abbrev pub forDictionary {ℓ} : {A : Type ℓ} → A → A → Encoding → A
 forDictionary other this Plain = other
 forDictionary other this Varint = other
@@ -24,7 +25,8 @@ forDictionary other this RunLength = other
 forDictionary other this Dictionary = this
 forDictionary other this DeltaBinaryPacked = other
 
--- "encoding 1 to 7? 2, at 0. At most 2^24 values? 21. For Dictionary: scratch of min(count, 16,384)? 22." The encoding, for a number
+-- The questions before the scratch is written: "encoding 1 to 7? 2, at 0. At most 2^24 values? 21. For Dictionary: scratch of min(count, 16,384)? 22."
+-- They find the encoding with that number.
 unfoldable pub writeChecks : ℕ → List ℤ → ℕ → Outcome Encoding
 writeChecks number column room = do
   _ ← check (within 1 7 number) 2 0

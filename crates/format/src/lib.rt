@@ -1,5 +1,7 @@
-// The types of the format's answers (document 01, "Questions at the counter" and "Statistics, estimates, plan").
-// There is no function here. What the calls answer is defined in specs/, over these types.
+// The types of the format's answers (document 01, "Questions at the counter" and "Statistics, estimates, plan"), and the
+// numbers of its refusals. There is no function here: what the calls answer is defined in specs/, over these types.
+
+pub mod refusal;
 
 // The seven integer encodings, in the order of their ids, 1 to 7.
 pub enum Encoding {
@@ -19,6 +21,7 @@ pub enum Sortedness {
     Unsorted,
 }
 
+// The number of distinct values, or a number that they exceed or reach.
 pub enum Cardinality {
     Exact(usize),
     AtLeast(usize),
@@ -37,13 +40,20 @@ pub enum Answer {
     Refused(u32, usize),
 }
 
-// A varint alone: its value and the place after it; or refused, with a number and an offset.
+// An unsigned varint that was read: its value, the place after it, and whether it is unpadded, which strict reading asks;
+// or refused, with a number and an offset.
 pub enum UvarintAnswer {
-    Read(u64, usize),
+    Read(u64, usize, bool),
     Malformed(u32, usize),
 }
 
-// The fields of `IntegerStats` but the distinct values.
+// The same for a signed varint.
+pub enum VarintAnswer {
+    Read(i64, usize, bool),
+    Malformed(u32, usize),
+}
+
+// The fields of the Rust's `IntegerStats` but the distinct values, which are handed back as a part of the scratch.
 pub struct IntegerStats {
     pub count: usize,
     pub first: i64,
@@ -67,6 +77,7 @@ pub struct SizeEstimates {
     pub available: [bool; 7],
 }
 
+// The Rust's `EncodingPlan`, with the run density, the ratio and the candidates beside it.
 pub struct EncodingPlan {
     pub encoding: Encoding,
     pub estimated_bytes: usize,

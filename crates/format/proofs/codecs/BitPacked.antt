@@ -9,12 +9,12 @@ use lib.IntN.{ℤ}
 use lib.ListN.{length, length-append, length-map}
 use borrow.Author.Tests.{le-leb}
 use Rattle.format.specs.Outcome.{ok}
-use Rattle.format.specs.Keys.{zigzag, gap, keyBytes}
+use Rattle.format.specs.Keys.{zigzag, gap, keyBytes, Key}
 use Rattle.format.specs.Folds.{least}
 use Rattle.format.specs.BitPacked.{packedBody, bitPackedBody, validateBitPacked, bitPackedValues}
 use Rattle.format.specs.Frame.{frameBody, validateFrame, frameValues}
 use Rattle.format.proofs.numbers.Keys.{length-keyBytes}
-use Rattle.format.proofs.numbers.All.{below-zigzags, All, Key}
+use Rattle.format.proofs.numbers.All.{below-zigzags, All}
 use Rattle.format.proofs.numbers.Extremes.{least-key, below-gaps}
 use Rattle.format.proofs.numbers.Inverses.{map-unzigzag, map-wrappingAdd}
 use Rattle.format.proofs.codecs.Occurs.{Occurs, occurs-first, occurs-next, occurs-room, occurs-at}

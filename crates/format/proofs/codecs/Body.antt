@@ -7,10 +7,10 @@ use lib.IntN.{ℤ}
 use lib.ListN.{length}
 use Rattle.format.specs.Outcome.{ok}
 use Rattle.format.specs.Chunk.{bodyOf, validateBody, bodyValues}
-use Rattle.format.specs.ThirdDemand.{Keys}
+use Rattle.format.specs.Keys.{Keys, Key}
 use Rattle.format.specs.declared.Encoding.{Encoding}
 use Rattle.format.specs.declared.Encoding.the-variants.{Plain, Varint, BitPacked, FrameOfReference, RunLength, Dictionary, DeltaBinaryPacked}
-use Rattle.format.proofs.numbers.All.{All, Key, keys-all}
+use Rattle.format.proofs.numbers.All.{All, keys-all}
 use Rattle.format.proofs.codecs.Occurs.{Occurs, occurs-middle}
 use Rattle.format.proofs.codecs.Plain.{plain-validate, plain-back}
 use Rattle.format.proofs.codecs.Varint.{varint-validate, varint-back}

@@ -15,7 +15,8 @@ use Rattle.format.specs.Answers.{stored}
 use Rattle.format.specs.Header.{Naming, headerBytes, headerLen}
 use Rattle.format.specs.Chunk.{bodyOf, chunkOf}
 use Rattle.format.specs.Read.{Validated, validate, strictChecks, readOutcome, valuesOf, readAnswer, readColumn}
-use Rattle.format.specs.ThirdDemand.{Keys, NamedFor}
+use Rattle.format.specs.Keys.{Keys}
+use Rattle.format.specs.ThirdDemand.{NamedFor}
 use Rattle.format.specs.declared.Answer.the-variants.{Accepted}
 use Rattle.format.specs.declared.Encoding.{Encoding}
 use Rattle.format.proofs.codecs.Header.{length-headerBytes, headOf, encodingOf-id, readHeader-back}

@@ -9,9 +9,11 @@ use lib.IntN.{ℤ, pos, negsuc}
 use lib.Signed.{ltZ}
 use lib.ListN.{length, getD}
 use borrow.Author.Tests.{lt-ltb, le-ltb, ltb-true}
-use Rattle.format.specs.Distinct.{insert, distinctFrom, distinct, codeOf}
+use Rattle.format.specs.Distinct.{insert, distinctFrom, distinct}
+use Rattle.format.specs.Dictionary.{codeOf}
 use Rattle.format.proofs.numbers.Order.{ltZ-not, ≤ℤ-antisymm}
-use Rattle.format.proofs.numbers.All.{All, all-none, all-more, Key}
+use Rattle.format.proofs.numbers.All.{All, all-none, all-more}
+use Rattle.format.specs.Keys.{Key}
 
 -- ---- the order's tests
 

@@ -10,15 +10,16 @@ use lib.Dec.{lit<}
 use lib.ListN.{length, getD, take, drop, length-append, length-map, length-take, length-drop}
 use lib.Seq.{take-add, take-all}
 use Rattle.format.specs.Outcome.{ok}
-use Rattle.format.specs.Keys.{gap, wrappingAdd, zigzag, unzigzag}
-use Rattle.format.specs.Varint.{UvarintRead, width, uvarintBytes, varintBytes, readUvarint, uvarintAt}
+use Rattle.format.specs.Keys.{gap, wrappingAdd, zigzag, unzigzag, Key}
+use Rattle.format.specs.Varint.{UvarintRead, uvarintBytes, varintBytes, readUvarint, uvarintAt}
+use Rattle.format.specs.Width.{width}
 use Rattle.format.specs.Packing.{packedLen, widthAt, packedEnd, packedValues}
 use Rattle.format.specs.Folds.{least, largest, deltas, deltasFrom}
 use Rattle.format.specs.BitPacked.{packedBody}
 use Rattle.format.specs.Delta.{blockCount, blockBytes, blocksBytes, deltaBody, validateBlocks, validateDelta, blockDeltas, prefixSums, deltaValues}
 use Rattle.format.proofs.numbers.UvarintRows.{firstPadded-unpadded}
 use Rattle.format.proofs.numbers.Keys.{unzigzag-zigzag, zigzag-lt}
-use Rattle.format.proofs.numbers.All.{All, all-none, all-more, Key, all-take, all-drop, deltas-keys}
+use Rattle.format.proofs.numbers.All.{All, all-none, all-more, all-take, all-drop, deltas-keys}
 use Rattle.format.proofs.numbers.Extremes.{least-key, below-gaps}
 use Rattle.format.proofs.numbers.Inverses.{map-wrappingAdd, prefixSums-deltas, length-deltasFrom}
 use Rattle.format.proofs.codecs.Occurs.{Occurs, occurs-first, occurs-next}

@@ -12,12 +12,12 @@ use borrow.Author.Tests.{lt-ltb, le-leb}
 use Rattle.format.specs.Outcome.{ok}
 use Rattle.format.specs.Varint.{UvarintRead, uvarintBytes, validateUvarints, uvarintValues, afterUvarints}
 use Rattle.format.specs.Packing.{packedLen, packed, packedEnd, packedValues}
-use Rattle.format.specs.Distinct.{codeOf}
-use Rattle.format.specs.Dictionary.{codeWidth, dictionaryBodyWith, dictionaryBody, allBelow, validateDictionary, entriesOf, dictionaryValues}
+use Rattle.format.specs.Dictionary.{codeOf, codeWidth, dictionaryBodyWith, dictionaryBody, allBelow, validateDictionary, entriesOf, dictionaryValues}
 use Rattle.format.proofs.numbers.Digits.{Below, none as no-digit, more as digit}
 use Rattle.format.proofs.numbers.Widths.{width-lt, width-le}
 use Rattle.format.proofs.numbers.UvarintRows.{firstPadded-unpadded, varintsOf, entryNumbers, entryBytes-is, length-entryNumbers}
-use Rattle.format.proofs.numbers.All.{below-entryNumbers, All, Key, all-imp, all-map, all-below, map-id}
+use Rattle.format.proofs.numbers.All.{below-entryNumbers, All, all-imp, all-map, all-below, map-id}
+use Rattle.format.specs.Keys.{Key}
 use Rattle.format.proofs.numbers.Inverses.{entriesOf-numbers}
 use Rattle.format.proofs.codecs.Occurs.{Occurs, occurs-first, occurs-next, occurs-tail, occurs-byte, occurs-room, occurs-as}
 use Rattle.format.proofs.codecs.Packed.{width-read, packed-end, packed-back, length-packed}

@@ -11,7 +11,7 @@ use Rattle.format.specs.Outcome.{ok}
 use Rattle.format.specs.Varint.{uvarintLen, uvarintBytes, readUvarint}
 use Rattle.format.specs.Encodings.{idOf, encodings, encodingOf}
 use Rattle.format.specs.Header.{headerBytes, headerLen, Naming, unnamed, named, readId, Header, readHeader}
-use Rattle.format.specs.ThirdDemand.{NamedFor, by-no-name, by-its-name}
+use Rattle.format.specs.ThirdDemand.{NamedFor, not-named, named-so}
 use Rattle.format.specs.declared.Encoding.{Encoding}
 use Rattle.format.specs.declared.Encoding.the-variants.{Plain, Varint, BitPacked, FrameOfReference, RunLength, Dictionary, DeltaBinaryPacked}
 use Rattle.format.proofs.numbers.Digits.{Below, more}
@@ -95,5 +95,5 @@ encodingOf-id DeltaBinaryPacked = refl
 -- READ BACK, named by that encoding or not
 pub readHeader-back : (e : Encoding) (count : ℕ) (rest : List ℕ) (naming : Naming) → NamedFor e naming → count ≤ 2 ^ 24
     → readHeader naming (headerBytes (idOf e) count ++ rest) ≡ ok (headOf (idOf e) count)
-readHeader-back e count rest naming by-no-name h = readHeader-unnamed (idOf e) count rest (idOf-low e) (idOf-high e) h
-readHeader-back e count rest naming by-its-name h = readHeader-named (idOf e) count rest (idOf-low e) (idOf-high e) h
+readHeader-back e count rest naming not-named h = readHeader-unnamed (idOf e) count rest (idOf-low e) (idOf-high e) h
+readHeader-back e count rest naming named-so h = readHeader-named (idOf e) count rest (idOf-low e) (idOf-high e) h

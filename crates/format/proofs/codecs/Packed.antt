@@ -6,7 +6,7 @@ use mathlib.Core.List.{List, _∷_, map}
 use lib.ListN.{length, getD}
 use borrow.Author.Tests.{lt-ltb, le-leb}
 use Rattle.format.specs.Outcome.{ok}
-use Rattle.format.specs.Varint.{width}
+use Rattle.format.specs.Width.{width}
 use Rattle.format.specs.Packing.{packedLen, packed, widthAt, packedEnd, packedValues}
 use Rattle.format.specs.Folds.{largest}
 use Rattle.format.specs.BitPacked.{packedBody}

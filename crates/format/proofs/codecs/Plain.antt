@@ -8,10 +8,10 @@ use lib.IntN.{ℤ}
 use lib.ListN.{length, length-append}
 use borrow.Author.Tests.{le-leb}
 use Rattle.format.specs.Outcome.{ok}
-use Rattle.format.specs.Keys.{keyBytes, keyAt}
+use Rattle.format.specs.Keys.{keyBytes, keyAt, Key}
 use Rattle.format.specs.Plain.{plainBody, validatePlain, plainValues}
 use Rattle.format.proofs.numbers.Keys.{length-keyBytes, keyAt-back}
-use Rattle.format.proofs.numbers.All.{All, all-none, all-more, Key}
+use Rattle.format.proofs.numbers.All.{All, all-none, all-more}
 use Rattle.format.proofs.codecs.Occurs.{Occurs, occurs-first, occurs-next, occurs-room, occurs-at}
 
 -- eight bytes a value

@@ -10,12 +10,12 @@ use lib.IntN.{ℤ, pos, negsuc}
 use lib.ListN.{length, replicate, length-append, length-replicate, replicate-append-replicate}
 use borrow.Author.Tests.{le-leb, eqb-true}
 use Rattle.format.specs.Outcome.{ok}
-use Rattle.format.specs.Keys.{eqZ, zigzag, unzigzag}
+use Rattle.format.specs.Keys.{eqZ, zigzag, unzigzag, Key}
 use Rattle.format.specs.Varint.{UvarintRead, uvarintBytes, varintBytes, uvarintAt}
 use Rattle.format.specs.Runs.{Run, runs, runsFrom, runBytes, runBody, validateRuns, validateRunLength, runValues, runLengthValues}
 use Rattle.format.proofs.numbers.UvarintRows.{firstPadded-unpadded}
 use Rattle.format.proofs.numbers.Keys.{unzigzag-zigzag, zigzag-lt}
-use Rattle.format.proofs.numbers.All.{All, all-none, all-more, Key}
+use Rattle.format.proofs.numbers.All.{All, all-none, all-more}
 use Rattle.format.proofs.codecs.Occurs.{Occurs, occurs-first, occurs-next, occurs-at}
 use Rattle.format.proofs.codecs.Uvarints.{varint-read, varint-at}
 

@@ -6,10 +6,10 @@ use mathlib.Core.Option.{Option}
 use lib.IntN.{ℤ}
 use lib.ListN.{length, length-map}
 use Rattle.format.specs.Outcome.{ok}
-use Rattle.format.specs.Keys.{zigzag}
+use Rattle.format.specs.Keys.{zigzag, Key}
 use Rattle.format.specs.VarintBody.{varintBody, validateVarintBody, varintBodyValues}
 use Rattle.format.proofs.numbers.UvarintRows.{varintBody-is}
-use Rattle.format.proofs.numbers.All.{below-zigzags, All, Key}
+use Rattle.format.proofs.numbers.All.{below-zigzags, All}
 use Rattle.format.proofs.numbers.Inverses.{map-unzigzag}
 use Rattle.format.proofs.codecs.Occurs.{Occurs, occurs-as}
 use Rattle.format.proofs.codecs.Uvarints.{varints-validate, varints-back}

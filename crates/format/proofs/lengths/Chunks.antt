@@ -12,7 +12,7 @@ use Rattle.format.specs.Distinct.{distinct}
 use Rattle.format.specs.Delta.{blockCount}
 use Rattle.format.specs.Chunk.{chunkOf}
 use Rattle.format.specs.Estimates.{estimatesOf, lengthIn, availableIn}
-use Rattle.format.specs.ThirdDemand.{Keys}
+use Rattle.format.specs.Keys.{Keys}
 use Rattle.format.specs.declared.Encoding.{Encoding}
 use Rattle.format.specs.declared.Encoding.the-variants.{Plain, Varint, BitPacked, FrameOfReference, RunLength, Dictionary, DeltaBinaryPacked}
 use Rattle.format.proofs.lengths.Estimates.{plain-available, dictionary-few, delta-two}

@@ -7,8 +7,9 @@ use mathlib.Core.List.{List, [], _∷_}
 use lib.IntN.{ℤ}
 use lib.Signed.{_≤ℤ_}
 use lib.ListN.{length, take, drop, length-take, length-drop}
-use Rattle.format.specs.Keys.{gap}
-use Rattle.format.specs.Varint.{width, varintLen}
+use Rattle.format.specs.Keys.{gap, Key}
+use Rattle.format.specs.Varint.{varintLen}
+use Rattle.format.specs.Width.{width}
 use Rattle.format.specs.Packing.{packedLen}
 use Rattle.format.specs.Folds.{least, greatest, deltas}
 use Rattle.format.specs.Delta.{blockCount}
@@ -17,7 +18,7 @@ use Rattle.format.specs.Estimates.{estimatesOf, lengthIn}
 use Rattle.format.specs.declared.Encoding.the-variants.{DeltaBinaryPacked}
 use Rattle.format.proofs.numbers.Widths.{width-mono}
 use Rattle.format.proofs.numbers.Keys.{gap-lt}
-use Rattle.format.proofs.numbers.All.{All, all-take, all-drop, Key, deltas-keys}
+use Rattle.format.proofs.numbers.All.{All, all-take, all-drop, deltas-keys}
 use Rattle.format.proofs.numbers.Extremes.{least-all, greatest-all, span-part, varintLen-part}
 use Rattle.format.proofs.lengths.Parts.{length-deltas}
 use Rattle.format.proofs.lengths.PackedLen.{packedLen-mono, packedLen-split}

@@ -6,8 +6,9 @@ use mathlib.Core.List.{List, [], _∷_}
 use lib.IntN.{ℤ}
 use lib.Count.{leadingZeros}
 use lib.ListN.{length, take, drop, length-append}
-use Rattle.format.specs.Keys.{gap}
-use Rattle.format.specs.Varint.{width, uvarintLen, varintLen}
+use Rattle.format.specs.Keys.{gap, Key}
+use Rattle.format.specs.Varint.{uvarintLen, varintLen}
+use Rattle.format.specs.Width.{width}
 use Rattle.format.specs.Packing.{packedLen}
 use Rattle.format.specs.Folds.{least, greatest, deltas}
 use Rattle.format.specs.Header.{headerLen}
@@ -16,7 +17,7 @@ use Rattle.format.specs.Chunk.{bodyOf, chunkOf}
 use Rattle.format.specs.declared.Encoding.the-variants.{DeltaBinaryPacked}
 use Rattle.format.proofs.numbers.Uvarints.{length-uvarintBytes}
 use Rattle.format.proofs.numbers.Keys.{length-varintBytes}
-use Rattle.format.proofs.numbers.All.{All, all-take, all-drop, Key, deltas-keys}
+use Rattle.format.proofs.numbers.All.{All, all-take, all-drop, deltas-keys}
 use Rattle.format.proofs.numbers.Extremes.{largest-gaps}
 use Rattle.format.proofs.lengths.Parts.{length-blockBytes, length-deltas}
 use Rattle.format.proofs.lengths.Exact.{length-chunk}

@@ -8,7 +8,8 @@ use lib.Dec.{ltb, leb}
 use lib.ListN.{length, getD}
 use borrow.Author.Tests.{ltb-true, ltb-false, leb-true, le-leb, lt-leb}
 use Rattle.format.specs.Keys.{gap, zigzag}
-use Rattle.format.specs.Varint.{width, uvarintLen, varintLen}
+use Rattle.format.specs.Varint.{uvarintLen, varintLen}
+use Rattle.format.specs.Width.{width}
 use Rattle.format.specs.Packing.{packedLen}
 use Rattle.format.specs.Encodings.{maxDictionaryCardinality}
 use Rattle.format.specs.Folds.{least, greatest, largest, total, deltas}

@@ -9,7 +9,8 @@ use mathlib.Core.List.{List, [], _∷_, map}
 use lib.IntN.{ℤ, pos}
 use lib.ListN.{length, length-append, getD}
 use Rattle.format.specs.Keys.{gap, zigzag, eqZ}
-use Rattle.format.specs.Varint.{width, uvarintLen, varintLen}
+use Rattle.format.specs.Varint.{uvarintLen, varintLen}
+use Rattle.format.specs.Width.{width}
 use Rattle.format.specs.Encodings.{maxChunkElements, maxDictionaryCardinality}
 use Rattle.format.specs.Folds.{least, greatest, largest, total, deltas}
 use Rattle.format.specs.Header.{headerLen}

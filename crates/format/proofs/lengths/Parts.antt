@@ -6,7 +6,8 @@ use mathlib.Core.List.{List, [], _∷_, map}
 use lib.IntN.{ℤ}
 use lib.ListN.{length, length-append, length-map}
 use Rattle.format.specs.Keys.{gap}
-use Rattle.format.specs.Varint.{width, varintLen}
+use Rattle.format.specs.Varint.{varintLen}
+use Rattle.format.specs.Width.{width}
 use Rattle.format.specs.Packing.{packedLen, packed}
 use Rattle.format.specs.Folds.{largest, total, least, deltas}
 use Rattle.format.specs.Plain.{plainBody}

@@ -4,11 +4,9 @@ use mathlib.Core.List.{List, [], _∷_, _++_, map}
 use Prim.Native.Nat.{ℕ, zero, suc, _^_, _<_, suc-le-suc}
 use native.Mathlib.Nat.{zero-lt-suc, le-of-suc-le-suc, not-suc-le-zero}
 use lib.IntN.{ℤ, pos}
-use lib.Signed.{mag}
 use lib.ListN.{length, getD, take, drop}
-use Rattle.format.specs.Keys.{zigzag}
+use Rattle.format.specs.Keys.{Key, Keys, zigzag}
 use Rattle.format.specs.Folds.{deltasFrom, deltas}
-use Rattle.format.specs.ThirdDemand.{Keys}
 use Rattle.format.proofs.numbers.Digits.{Below, none, more}
 use Rattle.format.proofs.numbers.Keys.{delta-key, gap-lt, zigzag-lt}
 use Rattle.format.proofs.numbers.UvarintRows.{gapsOf, entryNumbers}
@@ -104,11 +102,7 @@ all-below (all-more h r) = more h (all-below r)
 
 -- ---- keys
 
--- v is a key
-abbrev pub Key : ℤ → Type 0
-Key v = mag v < 2 ^ 63
-
--- the book's columns of keys
+-- columns of keys
 pub keys-all : (column : List ℤ) → Keys column → All Key column
 keys-all column k = all-by column (pos 0) k
 

@@ -8,14 +8,15 @@ use lib.IntN.{ℤ, pos}
 use lib.Dec.{lit<}
 use lib.Signed.{mag, _≤ℤ_, ≤ℤ-refl}
 use lib.ListN.{length, getD, take, drop}
-use Rattle.format.specs.Keys.{gap, zigzag, lesser, greater}
-use Rattle.format.specs.Varint.{width, varintLen}
+use Rattle.format.specs.Keys.{gap, zigzag, lesser, greater, Key}
+use Rattle.format.specs.Varint.{varintLen}
+use Rattle.format.specs.Width.{width}
 use Rattle.format.specs.Packing.{packed, unpacked}
 use Rattle.format.specs.Folds.{leastFrom, least, greatestFrom, greatest, largest}
 use Rattle.format.proofs.numbers.Digits.{Below, none, more, unpacked-packed}
 use Rattle.format.proofs.numbers.Widths.{width-lt}
 use Rattle.format.proofs.numbers.Keys.{gap-lt}
-use Rattle.format.proofs.numbers.All.{All, all-none, all-more, all-imp, all-take, all-drop, all-left, all-right, all-at, all-by, all-map, all-unmap, all-both, map-id, below-all, all-below, Key}
+use Rattle.format.proofs.numbers.All.{All, all-none, all-more, all-imp, all-take, all-drop, all-left, all-right, all-at, all-by, all-map, all-unmap, all-both, map-id, below-all, all-below}
 use Rattle.format.proofs.numbers.Order.{≤ℤ-trans, lesser-left, lesser-right, lesser-has, greater-left, greater-right, greater-has, gap-upper, gap-inside, zigzag-between, varintLen-between}
 
 -- ---- the least

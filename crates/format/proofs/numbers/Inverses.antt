@@ -4,13 +4,13 @@ use mathlib.Core.List.{List, [], _∷_, map}
 use Prim.Native.Nat.{suc}
 use lib.IntN.{ℤ, pos}
 use lib.ListN.{length}
-use Rattle.format.specs.Keys.{gap, wrappingAdd, zigzag, unzigzag}
+use Rattle.format.specs.Keys.{gap, wrappingAdd, zigzag, unzigzag, Key}
 use Rattle.format.specs.Folds.{deltasFrom}
 use Rattle.format.specs.Dictionary.{entriesFrom, entriesOf}
 use Rattle.format.specs.Delta.{prefixSums}
 use Rattle.format.proofs.numbers.Keys.{wrappingAdd-gap, wrappingAdd-delta, unzigzag-zigzag}
 use Rattle.format.proofs.numbers.UvarintRows.{gapsOf, entryNumbers}
-use Rattle.format.proofs.numbers.All.{All, all-none, all-more, Key}
+use Rattle.format.proofs.numbers.All.{All, all-none, all-more}
 
 -- ZigZags back
 pub map-unzigzag : (column : List ℤ) → map unzigzag (map zigzag column) ≡ column

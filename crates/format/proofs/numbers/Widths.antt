@@ -6,7 +6,8 @@ use native.Mathlib.Decide.{decLe}
 use native.Mathlib.Omega.{arith}
 use lib.Pow.{pow-mono, pow-add}
 use lib.Count.{leadingZeros, leading-length}
-use Rattle.format.specs.Varint.{width, uvarintLen}
+use Rattle.format.specs.Varint.{uvarintLen}
+use Rattle.format.specs.Width.{width}
 
 -- the width is the number's length in binary digits: it holds the number, and no shorter length does
 width-length : (x : ℕ) → x < 2 ^ 64 → (x < 2 ^ width x) × (2 ^ width x ≤ 2 * x + 1)

@@ -10,13 +10,13 @@ use lib.Seq.{take-at}
 use Rattle.format.specs.Outcome.{Outcome, ok, check}
 use Rattle.format.specs.Encodings.{idOf, within, maxChunkElements, maxDictionaryCardinality}
 use Rattle.format.specs.Answers.{stored, storedAnswer, bufferAfter}
-use Rattle.format.specs.Distinct.{tooManyDistinct, cappedDistinct, scratchCheck, distinct}
+use Rattle.format.specs.Distinct.{tooManyDistinct, cappedDistinct, scratchCheck, distinct, scratchNeeded}
 use Rattle.format.specs.Chunk.{chunkOf}
 use Rattle.format.specs.Statistics.{statsOf, analysisChecks, cardinalityOf}
 use Rattle.format.specs.Estimates.{estimatesFrom, estimatesOf, availableIn, isExact}
 use Rattle.format.specs.Write.{forDictionary, writeChecks, writeOutcome, writeAnswer, writeOutput}
 use Rattle.format.specs.Plan.{planOf, planChecks, planAnswer}
-use Rattle.format.specs.ThirdDemand.{scratchNeeded, chunkStored}
+use Rattle.format.specs.ThirdDemand.{chunkStored}
 use Rattle.format.specs.declared.Encoding.{Encoding}
 use Rattle.format.specs.declared.Encoding.the-variants.{Plain, Varint, BitPacked, FrameOfReference, RunLength, Dictionary, DeltaBinaryPacked}
 use Rattle.format.specs.declared.Cardinality.the-variants.{Exact, AtLeast}

@@ -15,7 +15,9 @@ use Rattle.format.specs.Chunk.{chunkOf}
 use Rattle.format.specs.Read.{readAnswer, readColumn}
 use Rattle.format.specs.Estimates.{estimatesOf, lengthIn, availableIn}
 use Rattle.format.specs.Plan.{planOf}
-use Rattle.format.specs.ThirdDemand.{Keys, scratchNeeded, NamedFor, chunkStored, RoundTrip, ThirdDemand}
+use Rattle.format.specs.Keys.{Keys}
+use Rattle.format.specs.Distinct.{scratchNeeded}
+use Rattle.format.specs.ThirdDemand.{NamedFor, chunkStored, RoundTrip, ThirdDemand}
 use Rattle.format.specs.declared.Encoding.{Encoding}
 use Rattle.format.specs.declared.Encoding.the-variants.{Plain, DeltaBinaryPacked}
 use Rattle.format.specs.declared.Answer.the-variants.{Accepted}

@@ -11,9 +11,10 @@ use lib.Dec.{ltb}
 use lib.ListN.{length, length-append, length-drop}
 use Rattle.format.specs.Encodings.{maxChunkElements, maxDictionaryCardinality}
 use Rattle.format.specs.Answers.{stored}
-use Rattle.format.specs.Distinct.{insert, cappedDistinctFrom, cappedDistinct, collected}
+use Rattle.format.specs.Distinct.{insert, cappedDistinctFrom, cappedDistinct, collected, scratchNeeded}
 use Rattle.format.specs.Plan.{planOf, planScratch}
-use Rattle.format.specs.ThirdDemand.{Keys, scratchNeeded, RoundTrip}
+use Rattle.format.specs.Keys.{Keys}
+use Rattle.format.specs.ThirdDemand.{RoundTrip}
 use Rattle.format.proofs.lengths.Distinct.{insert-one}
 use Rattle.format.proofs.plan.Checks.{planning-goes}
 use Rattle.format.proofs.third.ThirdDemand.{third}

@@ -4,7 +4,8 @@ use mathlib.Core.List.{List}
 use lib.IntN.{ℤ}
 use lib.ListN.{length}
 use Rattle.format.specs.Encodings.{maxChunkElements}
-use Rattle.format.specs.ThirdDemand.{Keys, ThirdDemand}
+use Rattle.format.specs.Keys.{Keys}
+use Rattle.format.specs.ThirdDemand.{ThirdDemand}
 use Rattle.format.proofs.codecs.Chunk.{readAnswer-back, readColumn-back}
 use Rattle.format.proofs.lengths.Estimates.{delta-two}
 use Rattle.format.proofs.lengths.Exact.{chunk-exact}
