@@ -1,3 +1,4 @@
+pub mod Encodings
 pub mod Header
 pub mod Occurs
 pub mod Packed

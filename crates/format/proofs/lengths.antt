@@ -1,4 +1,3 @@
-pub mod PackedLen
 pub mod Parts
 pub mod DeltaLength
 pub mod Estimates
@@ -6,4 +5,3 @@ pub mod Exact
 pub mod DeltaBound
 pub mod Limits
 pub mod Chunks
-pub mod Distinct

@@ -1,4 +1,6 @@
 pub mod Digits
+pub mod Packing
+pub mod Distinct
 pub mod Widths
 pub mod Uvarints
 pub mod UvarintRows

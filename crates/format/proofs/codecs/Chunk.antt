@@ -19,7 +19,8 @@ use Rattle.format.specs.Keys.{Keys}
 use Rattle.format.specs.ThirdDemand.{NamedFor}
 use Rattle.format.specs.declared.Answer.the-variants.{Accepted}
 use Rattle.format.specs.declared.Encoding.{Encoding}
-use Rattle.format.proofs.codecs.Header.{length-headerBytes, headOf, encodingOf-id, readHeader-back}
+use Rattle.format.proofs.codecs.Header.{length-headerBytes, headOf, readHeader-back}
+use Rattle.format.proofs.codecs.Encodings.{encodingOf-id}
 use Rattle.format.proofs.numbers.All.{keys-all}
 use Rattle.format.proofs.codecs.Occurs.{Occurs, occurs-middle, occurs-at}
 use Rattle.format.proofs.codecs.Body.{body-validate, body-values}

@@ -23,7 +23,8 @@ use Rattle.format.proofs.numbers.All.{All, all-none, all-more, all-take
 use Rattle.format.proofs.numbers.Extremes.{least-key, below-gaps}
 use Rattle.format.proofs.numbers.Inverses.{map-wrappingAdd, prefixSums-deltas, length-deltasFrom}
 use Rattle.format.proofs.codecs.Occurs.{Occurs, occurs-first, occurs-next}
-use Rattle.format.proofs.codecs.Packed.{body-width, body-byte, body-end, body-back, length-packed}
+use Rattle.format.proofs.codecs.Packed.{body-width, body-byte, body-end, body-back}
+use Rattle.format.proofs.numbers.Packing.{length-packed}
 use Rattle.format.proofs.codecs.Uvarints.{readBack, varint-read, varint-at}
 
 -- ---- one block that stands at a place

@@ -20,7 +20,8 @@ use Rattle.format.proofs.numbers.All.{below-entryNumbers, All, all-imp,
 use Rattle.format.specs.Keys.{Key}
 use Rattle.format.proofs.numbers.Inverses.{entriesOf-numbers}
 use Rattle.format.proofs.codecs.Occurs.{Occurs, occurs-first, occurs-next, occurs-tail, occurs-byte, occurs-room, occurs-as}
-use Rattle.format.proofs.codecs.Packed.{width-read, packed-end, packed-back, length-packed}
+use Rattle.format.proofs.codecs.Packed.{width-read, packed-end, packed-back}
+use Rattle.format.proofs.numbers.Packing.{length-packed}
 use Rattle.format.proofs.codecs.Uvarints.{varint-read, varint-at, varints-room, varints-validate, varints-back, varints-after}
 use Rattle.format.proofs.codecs.Codes.{Holds, place-lt, place-is, distinct-holds, distinct-keys, length-distinct}
 

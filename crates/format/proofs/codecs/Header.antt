@@ -4,18 +4,17 @@ use mathlib.Core.List.{List, _++_}
 use mathlib.Core.Option.{none}
 use Prim.Native.Nat.{ℕ, suc, _+_, _^_, _≤_, _<_}
 use native.Mathlib.Omega.{arith}
-use lib.Dec.{lit≤}
 use lib.ListN.{length}
 use borrow.Author.Tests.{lt-ltb, le-leb, eq-eqb}
 use Rattle.format.specs.Outcome.{ok}
 use Rattle.format.specs.Varint.{uvarintLen, uvarintBytes, readUvarint}
-use Rattle.format.specs.Encodings.{idOf, encodings, encodingOf}
+use Rattle.format.specs.Encodings.{idOf}
 use Rattle.format.specs.Header.{headerBytes, headerLen, Naming, unnamed, named, readId, Header, readHeader}
 use Rattle.format.specs.ThirdDemand.{NamedFor, not-named, named-so}
 use Rattle.format.specs.declared.Encoding.{Encoding}
-use Rattle.format.specs.declared.Encoding.the-variants.{Plain, Varint, BitPacked, FrameOfReference, RunLength, Dictionary, DeltaBinaryPacked}
 use Rattle.format.proofs.numbers.Digits.{Below, more}
 use Rattle.format.proofs.numbers.Uvarints.{readAs, length-uvarintBytes, below-uvarintBytes, readUvarint-back}
+use Rattle.format.proofs.codecs.Encodings.{idOf-high, idOf-low}
 
 -- a header has its length
 pub length-headerBytes : (id count : ℕ) → length (headerBytes id count) ≡ headerLen count
@@ -61,36 +60,6 @@ module _ (id count : ℕ) (rest : List ℕ) (low : 1 ≤ id) (high : id ≤ 7) w
   readHeader-named h = read-naming (named id) id-named h
 
 -- ---- by the encoding
-
--- an encoding's id is from 1 to 7
-pub idOf-low : (e : Encoding) → 1 ≤ idOf e
-idOf-low Plain = lit≤ tt
-idOf-low Varint = lit≤ tt
-idOf-low BitPacked = lit≤ tt
-idOf-low FrameOfReference = lit≤ tt
-idOf-low RunLength = lit≤ tt
-idOf-low Dictionary = lit≤ tt
-idOf-low DeltaBinaryPacked = lit≤ tt
-
-pub idOf-high : (e : Encoding) → idOf e ≤ 7
-idOf-high Plain = lit≤ tt
-idOf-high Varint = lit≤ tt
-idOf-high BitPacked = lit≤ tt
-idOf-high FrameOfReference = lit≤ tt
-idOf-high RunLength = lit≤ tt
-idOf-high Dictionary = lit≤ tt
-idOf-high DeltaBinaryPacked = lit≤ tt
-
--- and says the encoding
-pub encodingOf-id : (e : Encoding) → encodingOf (idOf e) ≡ e
-unfolding encodingOf encodings
-encodingOf-id Plain = refl
-encodingOf-id Varint = refl
-encodingOf-id BitPacked = refl
-encodingOf-id FrameOfReference = refl
-encodingOf-id RunLength = refl
-encodingOf-id Dictionary = refl
-encodingOf-id DeltaBinaryPacked = refl
 
 -- READ BACK, named by that encoding or not
 pub readHeader-back : (e : Encoding) (count : ℕ) (rest : List ℕ) (naming : Naming) → NamedFor e naming → count ≤ 2 ^ 24

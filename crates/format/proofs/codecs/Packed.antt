@@ -10,15 +10,11 @@ use Rattle.format.specs.Width.{width}
 use Rattle.format.specs.Packing.{packedLen, packed, widthAt, packedEnd, packedValues}
 use Rattle.format.specs.Folds.{largest}
 use Rattle.format.specs.BitPacked.{packedBody}
-use Rattle.format.proofs.numbers.Digits.{Below, length-digits, unpacked-packed}
+use Rattle.format.proofs.numbers.Digits.{Below}
+use Rattle.format.proofs.numbers.Packing.{unpacked-packed, length-packed}
 use Rattle.format.proofs.numbers.Widths.{width-le}
 use Rattle.format.proofs.numbers.Extremes.{mod-below, below-widest}
 use Rattle.format.proofs.codecs.Occurs.{Occurs, occurs-tail, occurs-byte, occurs-room}
-
--- packed bytes are so many as the packed length says
-pub length-packed : (w : ℕ) (ns : List ℕ) → length (packed w ns) ≡ packedLen (length ns) w
-unfolding packed
-length-packed w ns = length-digits 256 _ _
 
 module _ {s : List ℕ} {at : ℕ} where
   -- the width byte that stands at a place

@@ -22,7 +22,7 @@ use Rattle.format.specs.Statistics.{runLen, cardinalityOf, statsOf}
 use Rattle.format.specs.Estimates.{isExact, entriesLen, plainEstimate, varintEstimate, bitPackedEstimate, frameEstimate, runLengthEstimate, dictionaryEstimate, deltaEstimate, estimatesFrom, estimatesOf, lengthIn, availableIn}
 use Rattle.format.specs.declared.Cardinality.the-variants.{Exact, AtLeast}
 use Rattle.format.specs.declared.Encoding.the-variants.{Plain, Varint, BitPacked, FrameOfReference, RunLength, Dictionary, DeltaBinaryPacked}
-use Rattle.format.proofs.lengths.Distinct.{distinctValues-all}
+use Rattle.format.proofs.numbers.Distinct.{distinctValues-all}
 
 -- seven of each, as the struct has them
 pub estimates-seven : (column : List ℤ) → (length (estimatesOf column .lengths) ≡ 7) × (length (estimatesOf column .available) ≡ 7)

@@ -19,7 +19,8 @@ use Rattle.format.specs.Estimates.{estimatesOf, lengthIn, availableIn}
 use Rattle.format.specs.Keys.{Keys}
 use Rattle.format.specs.declared.Encoding.{Encoding}
 use Rattle.format.specs.declared.Encoding.the-variants.{Plain, Varint, BitPacked, FrameOfReference, RunLength, Dictionary, DeltaBinaryPacked}
-use Rattle.format.proofs.lengths.Parts.{length-plainBody, length-varintBody, length-packedBody, length-runBytes, length-entryBytes, length-packed}
+use Rattle.format.proofs.lengths.Parts.{length-plainBody, length-varintBody, length-packedBody, length-runBytes, length-entryBytes}
+use Rattle.format.proofs.numbers.Packing.{length-packed}
 use Rattle.format.proofs.numbers.Uvarints.{length-uvarintBytes}
 use Rattle.format.proofs.numbers.Keys.{length-keyBytes}
 use Rattle.format.proofs.codecs.Header.{length-headerBytes}

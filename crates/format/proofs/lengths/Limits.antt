@@ -23,8 +23,8 @@ use Rattle.format.specs.Estimates.{gapsLen, entriesLen, estimatesOf, len
 use Rattle.format.specs.declared.Encoding.{Encoding}
 use Rattle.format.specs.declared.Encoding.the-variants.{Plain, Varint, BitPacked, FrameOfReference, RunLength, Dictionary, DeltaBinaryPacked}
 use Rattle.format.proofs.numbers.Widths.{width-le, width-least, uvarintLen-pos, uvarintLen-le, uvarintLen-least}
-use Rattle.format.proofs.lengths.PackedLen.{packedLen-most}
-use Rattle.format.proofs.lengths.Distinct.{distinct-most}
+use Rattle.format.proofs.numbers.Packing.{packedLen-most}
+use Rattle.format.proofs.numbers.Distinct.{distinct-most}
 use Rattle.format.proofs.lengths.Estimates.{plain-estimate, varint-estimate, bitPacked-estimate, frame-estimate, runLength-estimate, dictionary-estimate, delta-estimate, dictionary-none, delta-none, dictionary-few, delta-two}
 use Rattle.format.proofs.lengths.DeltaLength.{deltaBlockSize-len}
 

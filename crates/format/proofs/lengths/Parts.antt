@@ -8,7 +8,7 @@ use lib.ListN.{length, length-append, length-map}
 use Rattle.format.specs.Keys.{gap}
 use Rattle.format.specs.Varint.{varintLen}
 use Rattle.format.specs.Width.{width}
-use Rattle.format.specs.Packing.{packedLen, packed}
+use Rattle.format.specs.Packing.{packedLen}
 use Rattle.format.specs.Folds.{largest, total, least, deltas}
 use Rattle.format.specs.Plain.{plainBody}
 use Rattle.format.specs.VarintBody.{varintBody}
@@ -18,15 +18,10 @@ use Rattle.format.specs.Dictionary.{gapBytes, entryBytes}
 use Rattle.format.specs.Delta.{blockBytes}
 use Rattle.format.specs.Statistics.{runLen}
 use Rattle.format.specs.Estimates.{gapsLen, entriesLen}
-use Rattle.format.proofs.numbers.Digits.{length-digits}
 use Rattle.format.proofs.numbers.Uvarints.{length-uvarintBytes}
 use Rattle.format.proofs.numbers.Keys.{length-keyBytes, length-varintBytes}
 use Rattle.format.proofs.numbers.Inverses.{length-deltasFrom}
-
--- packed numbers
-pub length-packed : (w : ℕ) (ns : List ℕ) → length (packed w ns) ≡ packedLen (length ns) w
-unfolding packed
-length-packed w ns = length-digits 256 (packedLen (length ns) w) _
+use Rattle.format.proofs.numbers.Packing.{length-packed}
 
 -- a width byte and the numbers packed at it
 pub length-packedBody : (ns : List ℕ) → length (packedBody ns) ≡ 1 + packedLen (length ns) (width (largest ns))

@@ -13,7 +13,8 @@ use Rattle.format.specs.Varint.{varintLen}
 use Rattle.format.specs.Width.{width}
 use Rattle.format.specs.Packing.{packed, unpacked}
 use Rattle.format.specs.Folds.{leastFrom, least, greatestFrom, greatest, largest}
-use Rattle.format.proofs.numbers.Digits.{Below, none, more, unpacked-packed}
+use Rattle.format.proofs.numbers.Digits.{Below, none, more}
+use Rattle.format.proofs.numbers.Packing.{unpacked-packed}
 use Rattle.format.proofs.numbers.Widths.{width-lt}
 use Rattle.format.proofs.numbers.Keys.{gap-lt}
 use Rattle.format.proofs.numbers.All.{All, all-none, all-more, all-imp, all-take, all-drop, all-left, all-right, all-at, all-by, all-map, all-unmap, all-both, map-id, below-all, all-below}

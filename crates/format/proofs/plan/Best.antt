@@ -1,41 +1,21 @@
 -- The best candidate of a list of estimates: available, least by length, then by rank, then by id; and the only such.
-use mathlib.Core.Path.{_≡_, refl, sym, ap, _∙_, subst}
+use mathlib.Core.Path.{_≡_, refl, sym, subst}
 use Prim.Native.Nat.{ℕ, _+_, _*_, _≤_, _<_}
 use native.Mathlib.Nat.{le-refl, le-trans}
 use native.Mathlib.Omega.{arith}
 use mathlib.Core.Bool.{Bool, true, false, not, cond, _&&_, _||_}
 use mathlib.Core.List.{List, [], _∷_}
-use mathlib.Core.Logic.{_⊎_, inl, inr, _≢_}
-use borrow.Author.Tests.{eqb-true, eqb-false}
-use lib.Dec.{T, ltb, eqb, ltb→lt, nltb→le, eqb→eq, eqb-refl, lit≤, lit<}
-use Rattle.format.specs.Encodings.{idOf, encodings, encodingOf, decodeCostRank}
+use mathlib.Core.Logic.{_⊎_, inl, inr}
+use lib.Dec.{T, ltb, eqb, ltb→lt, nltb→le, eqb→eq, eqb-refl, lit≤}
+use Rattle.format.specs.Encodings.{idOf, encodings, decodeCostRank}
 use Rattle.format.specs.Estimates.{lengthIn, availableIn}
 use Rattle.format.specs.Plan.{beats, bestFrom, best}
 use Rattle.format.specs.declared.Encoding.{Encoding}
 use Rattle.format.specs.declared.Encoding.the-variants.{Plain, Varint, BitPacked, FrameOfReference, RunLength, Dictionary, DeltaBinaryPacked}
 use Rattle.format.specs.declared.SizeEstimates.{SizeEstimates}
+use Rattle.format.proofs.codecs.Encodings.{id-same, id-small, rank-small}
 
 -- ---- the order of candidates as one number: length, then rank, then id
-
--- ranks are below 8
-pub rank-small : (e : Encoding) → decodeCostRank e < 8
-rank-small Plain = lit< tt
-rank-small Varint = lit< tt
-rank-small BitPacked = lit< tt
-rank-small FrameOfReference = lit< tt
-rank-small RunLength = lit< tt
-rank-small Dictionary = lit< tt
-rank-small DeltaBinaryPacked = lit< tt
-
--- ids are below 8
-pub id-small : (e : Encoding) → idOf e < 8
-id-small Plain = lit< tt
-id-small Varint = lit< tt
-id-small BitPacked = lit< tt
-id-small FrameOfReference = lit< tt
-id-small RunLength = lit< tt
-id-small Dictionary = lit< tt
-id-small DeltaBinaryPacked = lit< tt
 
 -- length and rank as one number, the length first
 abbrev pub cost : SizeEstimates → Encoding → ℕ
@@ -194,29 +174,6 @@ best-unbeaten es b h e = go (beats es e b) refl
         let u : (availableIn es e ≡ true) × (cost es e < cost es b) = beats-true es e b p in
         let z : ⊥ = omega (arith, u .1, h .first e (u .0), id-small e, id-small b) in
         absurd z
-
--- the encoding with an encoding's id
-pub encoding-back : (e : Encoding) → encodingOf (idOf e) ≡ e
-unfolding encodingOf encodings
-encoding-back Plain = refl
-encoding-back Varint = refl
-encoding-back BitPacked = refl
-encoding-back FrameOfReference = refl
-encoding-back RunLength = refl
-encoding-back Dictionary = refl
-encoding-back DeltaBinaryPacked = refl
-
--- ids tell the encodings apart
-pub id-same : (a b : Encoding) → idOf a ≡ idOf b → a ≡ b
-id-same a b p = sym (encoding-back a) ∙ ap encodingOf p ∙ encoding-back b
-
--- two encodings are the same or not
-pub same-or-not : (a b : Encoding) → (a ≡ b) ⊎ (a ≢ b)
-same-or-not a b = go (eqb (idOf a) (idOf b)) (eqb-true (idOf a) (idOf b)) (eqb-false (idOf a) (idOf b))
-  where
-    go : (t : Bool) → (t ≡ true → idOf a ≡ idOf b) → (t ≡ false → idOf a ≡ idOf b → ⊥) → (a ≡ b) ⊎ (a ≢ b)
-    go true y n = inl (id-same a b (y refl))
-    go false y n = inr (λ (p : a ≡ b). n refl (ap idOf p))
 
 -- there is only one best
 pub best-one : (es : SizeEstimates) (a b : Encoding) → Best es a → Best es b → a ≡ b

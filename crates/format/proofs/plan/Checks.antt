@@ -8,7 +8,7 @@ use lib.IntN.{ℤ}
 use lib.ListN.{length, take, drop}
 use lib.Seq.{take-at}
 use Rattle.format.specs.Outcome.{Outcome, ok, check}
-use Rattle.format.specs.Encodings.{idOf, within, maxChunkElements, maxDictionaryCardinality}
+use Rattle.format.specs.Encodings.{idOf, maxChunkElements, maxDictionaryCardinality}
 use Rattle.format.specs.Answers.{stored, storedAnswer, bufferAfter}
 use Rattle.format.specs.Distinct.{tooManyDistinct, cappedDistinct, scratchCheck, distinct, scratchNeeded}
 use Rattle.format.specs.Chunk.{chunkOf}
@@ -21,7 +21,7 @@ use Rattle.format.specs.declared.Encoding.{Encoding}
 use Rattle.format.specs.declared.Encoding.the-variants.{Plain, Varint, BitPacked, FrameOfReference, RunLength, Dictionary, DeltaBinaryPacked}
 use Rattle.format.specs.declared.Cardinality.the-variants.{Exact, AtLeast}
 use Rattle.format.specs.declared.Answer.the-variants.{Accepted}
-use Rattle.format.proofs.plan.Best.{encoding-back}
+use Rattle.format.proofs.codecs.Encodings.{encodingOf-id, id-within}
 
 -- ---- planning
 
@@ -68,22 +68,12 @@ for-dictionary o RunLength h = refl
 for-dictionary o Dictionary h = h refl
 for-dictionary o DeltaBinaryPacked h = refl
 
--- an encoding's id is a number from 1 to 7
-pub id-within : (e : Encoding) → within 1 7 (idOf e) ≡ true
-id-within Plain = refl
-id-within Varint = refl
-id-within BitPacked = refl
-id-within FrameOfReference = refl
-id-within RunLength = refl
-id-within Dictionary = refl
-id-within DeltaBinaryPacked = refl
-
 -- with few enough values and scratch enough, writing's 2, 21 and 22 are passed
 pub writeOutcome-room-goes : (e : Encoding) (column : List ℤ) (room : ℕ) → length column ≤ maxChunkElements → scratchNeeded column ≤ room
     → writeChecks (idOf e) column room ≡ ok e
 unfolding writeChecks
 writeOutcome-room-goes e column room n h =
-    rw (id-within e, le-leb (length column) maxChunkElements n, encoding-back e, for-dictionary (scratchCheck column room) e (λ p. scratch-enough column room h))
+    rw (id-within e, le-leb (length column) maxChunkElements n, encodingOf-id e, for-dictionary (scratchCheck column room) e (λ p. scratch-enough column room h))
 
 -- writing goes to its end, and finds the chunk
 pub writeOutcome-goes : (e : Encoding) (column : List ℤ) (room space : ℕ) → length column ≤ maxChunkElements → (e ≡ Dictionary → tooManyDistinct column ≡ false)

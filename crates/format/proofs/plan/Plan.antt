@@ -22,7 +22,8 @@ use Rattle.format.specs.declared.PlanReason.the-variants.{Empty, Compres
 use Rattle.format.specs.declared.IntegerStats.{IntegerStats}
 use Rattle.format.specs.declared.SizeEstimates.{SizeEstimates}
 use Rattle.format.proofs.plan.Gain.{gain-mono}
-use Rattle.format.proofs.plan.Best.{Best, best-is, best-least, id-same}
+use Rattle.format.proofs.plan.Best.{Best, best-is, best-least}
+use Rattle.format.proofs.codecs.Encodings.{id-same}
 
 -- ---- the list of estimates
 

@@ -21,7 +21,7 @@ use Rattle.format.specs.ThirdDemand.{NamedFor, chunkStored, RoundTrip, T
 use Rattle.format.specs.declared.Encoding.{Encoding}
 use Rattle.format.specs.declared.Encoding.the-variants.{Plain, DeltaBinaryPacked}
 use Rattle.format.specs.declared.Answer.the-variants.{Accepted}
-use Rattle.format.proofs.plan.Best.{same-or-not}
+use Rattle.format.proofs.codecs.Encodings.{same-or-not}
 use Rattle.format.proofs.plan.Plan.{plan-estimates, plan-bytes, plan-plain, plan-available, plan-not-above, plan-smallest, plan-no-gain, plain-ifAvailable}
 use Rattle.format.proofs.plan.Checks.{planning-accepted, write-accepted, chunk-stored}
 

@@ -15,7 +15,7 @@ use Rattle.format.specs.Distinct.{insert, cappedDistinctFrom, cappedDist
 use Rattle.format.specs.Plan.{planOf, planScratch}
 use Rattle.format.specs.Keys.{Keys}
 use Rattle.format.specs.ThirdDemand.{RoundTrip}
-use Rattle.format.proofs.lengths.Distinct.{insert-one}
+use Rattle.format.proofs.numbers.Distinct.{insert-one}
 use Rattle.format.proofs.plan.Checks.{planning-goes}
 use Rattle.format.proofs.third.ThirdDemand.{third}
 
