@@ -1,4 +1,3 @@
-pub mod RoundTrip
 pub mod ThirdDemand
 pub mod Fractions
 pub mod Scratch

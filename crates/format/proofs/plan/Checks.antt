@@ -1,112 +1,134 @@
--- The questions of planning and writing, where every answer is yes.
-use mathlib.Core.Path.{_≡_, refl, sym, ap, _∙_, subst}
-use Prim.Native.Nat.{ℕ, _+_, _≤_, min}
-use mathlib.Core.Bool.{Bool, true, false, not, cond}
+-- Planning and writing are accepted where every question has a yes: with a level of at most 9, at most 2^24 values, the scratch that 01 names, and an output
+-- as long as the chunk. Each question's test holds by its hypothesis; Dictionary's last one, at most 16,384 distinct values, by the encoding being available.
+use mathlib.Core.Path.{_≡_, refl, ap, subst}
+use Prim.Native.Nat.{ℕ, _≤_}
+use native.Mathlib.Nat.{le-trans}
+use native.Mathlib.Omega.{arith}
+use mathlib.Core.Bool.{Bool, true, false, not}
 use mathlib.Core.List.{List}
-use borrow.Author.Tests.{le-leb, not-true}
+use borrow.Author.Tests.{le-leb}
 use lib.IntN.{ℤ}
-use lib.ListN.{length, take, drop}
-use lib.Seq.{take-at}
+use lib.ListN.{length, take, drop, length-append, length-drop}
+use lib.Seq.{take-append-seam}
 use Rattle.format.specs.Outcome.{Outcome, ok, check}
-use Rattle.format.specs.Encodings.{idOf, maxChunkElements, maxDictionaryCardinality}
+use Rattle.format.specs.Encodings.{idOf, maxChunkElements}
 use Rattle.format.specs.Answers.{stored, storedAnswer, bufferAfter}
-use Rattle.format.specs.Distinct.{tooManyDistinct, cappedDistinct, scratchCheck, distinct, scratchNeeded}
+use Rattle.format.specs.Distinct.{tooManyDistinct, cappedDistinct, scratchCheck, scratchNeeded, collected}
 use Rattle.format.specs.Chunk.{chunkOf}
-use Rattle.format.specs.Statistics.{statsOf, analysisChecks, cardinalityOf}
-use Rattle.format.specs.Estimates.{estimatesFrom, estimatesOf, availableIn, isExact}
+use Rattle.format.specs.Statistics.{analysisChecks}
+use Rattle.format.specs.Estimates.{estimatesOf, availableIn}
 use Rattle.format.specs.Write.{forDictionary, writeChecks, writeOutcome, writeAnswer, writeOutput}
-use Rattle.format.specs.Plan.{planOf, planChecks, planAnswer}
+use Rattle.format.specs.Plan.{planOf, planChecks, planAnswer, planScratch}
 use Rattle.format.specs.ThirdDemand.{chunkStored}
 use Rattle.format.specs.declared.Encoding.{Encoding}
 use Rattle.format.specs.declared.Encoding.the-variants.{Plain, Varint, BitPacked, FrameOfReference, RunLength, Dictionary, DeltaBinaryPacked}
-use Rattle.format.specs.declared.Cardinality.the-variants.{Exact, AtLeast}
 use Rattle.format.specs.declared.Answer.the-variants.{Accepted}
+use Rattle.format.proofs.numbers.Distinct.{cappedDistinct-most, tooManyDistinct-of-few}
 use Rattle.format.proofs.codecs.Encodings.{encodingOf-id, id-within}
+use Rattle.format.proofs.lengths.Estimates.{dictionary-few}
+
+-- ---- a buffer after storing
+
+-- its front is what was stored
+pub take-stored {ℓ} : {A : Type ℓ} (front buffer : List A) → take (length front) (stored front buffer) ≡ front
+unfolding stored
+take-stored front buffer = take-append-seam front (drop (length front) buffer)
+
+-- a buffer that is long enough keeps its length
+pub length-stored {ℓ} : {A : Type ℓ} (front buffer : List A) → length front ≤ length buffer → length (stored front buffer) ≡ length buffer
+unfolding stored
+length-stored front buffer h = simp (length-append, length-drop) (omega arith)
 
 -- ---- planning
 
--- with scratch enough, 22 is passed,
-pub scratch-enough : (column : List ℤ) (room : ℕ) → scratchNeeded column ≤ room → scratchCheck column room ≡ ok tt
+-- "scratch of min(count, 16,384)? 22": yes, with so many places
+pub scratchCheck-ok : (column : List ℤ) (room : ℕ) → scratchNeeded column ≤ room → scratchCheck column room ≡ ok tt
 unfolding scratchCheck
-scratch-enough column room h = rw (le-leb (min (length column) maxDictionaryCardinality) room h)
+scratchCheck-ok column room enough = rw (le-leb (scratchNeeded column) room enough)
 
--- so are 21 and 22, with few enough values,
-pub analysisChecks-goes : (column : List ℤ) (room : ℕ) → length column ≤ maxChunkElements → scratchNeeded column ≤ room → analysisChecks column room ≡ ok tt
+-- "Statistics or estimates alone: 21, 22": all yes, with at most 2^24 values too
+pub analysisChecks-ok : (column : List ℤ) (room : ℕ) → length column ≤ maxChunkElements → scratchNeeded column ≤ room → analysisChecks column room ≡ ok tt
 unfolding analysisChecks
-analysisChecks-goes column room n h = rw (le-leb (length column) maxChunkElements n) (scratch-enough column room h)
+analysisChecks-ok column room size enough = rw (le-leb (length column) maxChunkElements size) (scratchCheck-ok column room enough)
 
--- and so are 24, 21 and 22
-pub planning-goes : (level : ℕ) (column : List ℤ) (room : ℕ) → level ≤ 9 → length column ≤ maxChunkElements → scratchNeeded column ≤ room
-    → planChecks level column room ≡ ok tt
-unfolding planChecks
-planning-goes level column room l n h = rw (le-leb level 9 l) (analysisChecks-goes column room n h)
+module _ (level : ℕ) (column : List ℤ) (room : ℕ) (level-most : level ≤ 9) (size : length column ≤ maxChunkElements) (enough : scratchNeeded column ≤ room) where
+  -- "Planning: level at most 9? 24; then 21, 22": all yes
+  pub planChecks-ok : planChecks level column room ≡ ok tt
+  unfolding planChecks
+  planChecks-ok = rw (le-leb level 9 level-most) (analysisChecks-ok column room size enough)
 
--- with a level, a count and a scratch that will do, planning is accepted, with the column's plan
-pub planning-accepted : (level : ℕ) (column : List ℤ) (room : ℕ) → level ≤ 9 → length column ≤ maxChunkElements → scratchNeeded column ≤ room
-    → planAnswer level column room ≡ record { answer = Accepted (length (cappedDistinct column)); plan = planOf level column }
-unfolding planAnswer
-planning-accepted level column room l n h = rw (planning-goes level column room l n h)
+  -- so planning is accepted, with the column's plan
+  pub planAnswer-accepted : planAnswer level column room ≡ record { answer = Accepted (length (cappedDistinct column)); plan = planOf level column }
+  unfolding planAnswer
+  planAnswer-accepted = rw planChecks-ok
+
+-- planning stores the distinct values that it met, for which there is room, so the scratch keeps its length
+pub length-planScratch :
+    (level : ℕ) (column scratch : List ℤ) → level ≤ 9 → length column ≤ maxChunkElements → scratchNeeded column ≤ length scratch
+    → length (planScratch level column scratch) ≡ length scratch
+unfolding planScratch collected
+length-planScratch level column scratch level-most size enough =
+    rw (planChecks-ok level column (length scratch) level-most size enough)
+    (length-stored (cappedDistinct column) scratch (le-trans (cappedDistinct-most column) enough))
 
 -- ---- writing
 
--- Dictionary is available exactly where the distinct values are not too many
-pub dictionary-available : (column : List ℤ) → availableIn (estimatesOf column) Dictionary ≡ not (tooManyDistinct column)
-unfolding availableIn estimatesOf estimatesFrom statsOf cardinalityOf
-dictionary-available column = go (tooManyDistinct column)
-  where
-    go : (t : Bool) → isExact (cond t (AtLeast (maxDictionaryCardinality + 1)) (Exact (length (distinct column)))) ≡ not t
-    go true = refl
-    go false = refl
+-- what is asked for Dictionary alone is passed, if it is for Dictionary
+forDictionary-ok : (asked : Outcome (Unit {0})) (e : Encoding) → (e ≡ Dictionary → asked ≡ ok tt) → forDictionary (ok tt) asked e ≡ ok tt
+forDictionary-ok asked Plain h = refl
+forDictionary-ok asked Varint h = refl
+forDictionary-ok asked BitPacked h = refl
+forDictionary-ok asked FrameOfReference h = refl
+forDictionary-ok asked RunLength h = refl
+forDictionary-ok asked Dictionary h = h refl
+forDictionary-ok asked DeltaBinaryPacked h = refl
 
--- what is asked for Dictionary alone goes on, if it goes on there
-pub for-dictionary : (o : Outcome (Unit {0})) (e : Encoding) → (e ≡ Dictionary → o ≡ ok tt) → forDictionary (ok tt) o e ≡ ok tt
-for-dictionary o Plain h = refl
-for-dictionary o Varint h = refl
-for-dictionary o BitPacked h = refl
-for-dictionary o FrameOfReference h = refl
-for-dictionary o RunLength h = refl
-for-dictionary o Dictionary h = h refl
-for-dictionary o DeltaBinaryPacked h = refl
+module _ (e : Encoding) (column : List ℤ) (room : ℕ) (size : length column ≤ maxChunkElements) (enough : scratchNeeded column ≤ room) where
+  -- "encoding 1 to 7? 2, at 0. At most 2^24 values? 21. For Dictionary: scratch of min(count, 16,384)? 22": all yes
+  pub writeChecks-ok : writeChecks (idOf e) column room ≡ ok e
+  unfolding writeChecks
+  writeChecks-ok =
+      rw (
+        id-within e,
+        le-leb (length column) maxChunkElements size,
+        encodingOf-id e,
+        forDictionary-ok (scratchCheck column room) e (λ p. scratchCheck-ok column room enough),
+      )
 
--- with few enough values and scratch enough, writing's 2, 21 and 22 are passed
-pub writeOutcome-room-goes : (e : Encoding) (column : List ℤ) (room : ℕ) → length column ≤ maxChunkElements → scratchNeeded column ≤ room
-    → writeChecks (idOf e) column room ≡ ok e
-unfolding writeChecks
-writeOutcome-room-goes e column room n h =
-    rw (id-within e, le-leb (length column) maxChunkElements n, encodingOf-id e, for-dictionary (scratchCheck column room) e (λ p. scratch-enough column room h))
+  -- "at most 16,384 distinct? 23. Output long enough? 20": yes, so the chunk is found
+  pub writeOutcome-ok :
+      (space : ℕ) → (e ≡ Dictionary → tooManyDistinct column ≡ false) → length (chunkOf e column) ≤ space
+      → writeOutcome (idOf e) column room space ≡ ok (chunkOf e column)
+  unfolding writeOutcome
+  writeOutcome-ok space few fits =
+      let asked : Outcome (Unit {0}) = check (not (tooManyDistinct column)) 23 0 in
+      let passed : forDictionary (ok tt) asked e ≡ ok tt = forDictionary-ok asked e (λ p. ap (λ (t : Bool). check (not t) 23 0) (few p)) in
+      rw (writeChecks-ok, passed, le-leb (length (chunkOf e column)) space fits)
 
--- writing goes to its end, and finds the chunk
-pub writeOutcome-goes : (e : Encoding) (column : List ℤ) (room space : ℕ) → length column ≤ maxChunkElements → (e ≡ Dictionary → tooManyDistinct column ≡ false)
-    → scratchNeeded column ≤ room → length (chunkOf e column) ≤ space → writeOutcome (idOf e) column room space ≡ ok (chunkOf e column)
-unfolding writeOutcome
-writeOutcome-goes e column room space n d h k =
-    let few : forDictionary (ok tt) (check (not (tooManyDistinct column)) 23 0) e ≡ ok tt =
-    for-dictionary (check (not (tooManyDistinct column)) 23 0) e (λ p. ap (λ (t : Bool). check (not t) 23 0) (d p)) in
-    rw (writeOutcome-room-goes e column room n h, few, le-leb (length (chunkOf e column)) space k)
+-- where Dictionary is available there are at most 16,384 distinct values
+available-few : (column : List ℤ) (e : Encoding) → availableIn (estimatesOf column) e ≡ true → e ≡ Dictionary → tooManyDistinct column ≡ false
+available-few column e there p =
+    tooManyDistinct-of-few column (dictionary-few column (subst (λ (x : Encoding). availableIn (estimatesOf column) x ≡ true) p there))
 
--- an available Dictionary has not too many values
-pub available-few : (column : List ℤ) (e : Encoding) → availableIn (estimatesOf column) e ≡ true → e ≡ Dictionary → tooManyDistinct column ≡ false
-available-few column e a p =
-    not-true (tooManyDistinct column) (sym (dictionary-available column) ∙ subst (λ (x : Encoding). availableIn (estimatesOf column) x ≡ true) p a)
-
--- an available encoding is written, where lent enough: the answer,
-pub write-accepted : (e : Encoding) (column : List ℤ) (room space : ℕ) → length column ≤ maxChunkElements → availableIn (estimatesOf column) e ≡ true
+-- an available encoding is written, where enough is lent: the answer is accepted,
+pub writeAnswer-accepted :
+    (e : Encoding) (column : List ℤ) (room space : ℕ) → length column ≤ maxChunkElements → availableIn (estimatesOf column) e ≡ true
     → scratchNeeded column ≤ room → length (chunkOf e column) ≤ space → writeAnswer (idOf e) column room space ≡ Accepted (length (chunkOf e column))
 unfolding writeAnswer
-write-accepted e column room space n a h k = ap storedAnswer (writeOutcome-goes e column room space n (available-few column e a) h k)
+writeAnswer-accepted e column room space size there enough fits =
+    ap storedAnswer (writeOutcome-ok e column room size enough space (available-few column e there) fits)
 
--- and the output, whose front is the chunk
-pub write-stores : (e : Encoding) (column : List ℤ) (room : ℕ) (output : List ℕ) → length column ≤ maxChunkElements → availableIn (estimatesOf column) e ≡ true
+-- the chunk is stored in the output,
+pub writeOutput-stored :
+    (e : Encoding) (column : List ℤ) (room : ℕ) (output : List ℕ) → length column ≤ maxChunkElements → availableIn (estimatesOf column) e ≡ true
     → scratchNeeded column ≤ room → length (chunkOf e column) ≤ length output → writeOutput (idOf e) column room output ≡ stored (chunkOf e column) output
 unfolding writeOutput
-write-stores e column room output n a h k = ap (λ o. bufferAfter o output) (writeOutcome-goes e column room (length output) n (available-few column e a) h k)
+writeOutput-stored e column room output size there enough fits =
+    ap (λ o. bufferAfter o output) (writeOutcome-ok e column room size enough (length output) (available-few column e there) fits)
 
--- the front of what is stored
-pub stored-front {ℓ} : {A : Type ℓ} (front buffer : List A) → take (length front) (stored front buffer) ≡ front
-unfolding stored
-stored-front front buffer = take-at front (drop (length front) buffer) (length front) refl
-
--- the bytes that writing stored are the chunk
-pub chunk-stored : (e : Encoding) (column scratch : List ℤ) (output : List ℕ) → length column ≤ maxChunkElements → availableIn (estimatesOf column) e ≡ true
+-- and "the bytes that writing stored" are the chunk
+pub chunkStored-chunk :
+    (e : Encoding) (column scratch : List ℤ) (output : List ℕ) → length column ≤ maxChunkElements → availableIn (estimatesOf column) e ≡ true
     → scratchNeeded column ≤ length scratch → length (chunkOf e column) ≤ length output → chunkStored e column scratch output ≡ chunkOf e column
-chunk-stored e column scratch output n a h k = rw (write-stores e column (length scratch) output n a h k) (stored-front (chunkOf e column) output)
+chunkStored-chunk e column scratch output size there enough fits =
+    rw (writeOutput-stored e column (length scratch) output size there enough fits) (take-stored (chunkOf e column) output)
