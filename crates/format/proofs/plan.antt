@@ -3,5 +3,5 @@ pub mod Rounding
 pub mod Fraction
 pub mod Gain
 pub mod Plan
-pub mod Kept
+pub mod PlainPlanned
 pub mod Checks

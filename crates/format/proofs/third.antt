@@ -1,3 +1,2 @@
 pub mod ThirdDemand
-pub mod Fractions
 pub mod Scratch

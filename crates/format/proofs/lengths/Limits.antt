@@ -198,18 +198,23 @@ module _ (column : List ℤ) (size : length column ≤ maxChunkElements) where
   pub estimate-limit : (e : Encoding) → lengthIn (estimatesOf column) e ≤ 335544336
   estimate-limit e = omega (arith, estimate-most e)
 
--- ---- the other way: no available estimate is 0
+-- ---- from below
 
--- a header is 3 bytes at least
-pub estimate-some : (column : List ℤ) (e : Encoding) → availableIn (estimatesOf column) e ≡ true → 3 ≤ lengthIn (estimatesOf column) e
-estimate-some column Plain there = rw plain-estimate (omega (arith, headerLen-some (length column)))
-estimate-some column Varint there = rw varint-estimate (omega (arith, headerLen-some (length column)))
-estimate-some column BitPacked there = rw bitPacked-estimate (omega (arith, headerLen-some (length column)))
-estimate-some column FrameOfReference there = rw frame-estimate (omega (arith, headerLen-some (length column)))
-estimate-some column RunLength there = rw runLength-estimate (omega (arith, headerLen-some (length column)))
-estimate-some column Dictionary there = rw (dictionary-estimate column (dictionary-few column there)) (omega (arith, headerLen-some (length column)))
-estimate-some column DeltaBinaryPacked there = rw (delta-estimate column (delta-two column there)) (omega (arith, headerLen-some (length column)))
+module _ (column : List ℤ) where
+  -- an available estimate is at least the header's length,
+  pub estimate-header : (e : Encoding) → availableIn (estimatesOf column) e ≡ true → headerLen (length column) ≤ lengthIn (estimatesOf column) e
+  estimate-header Plain there = rw plain-estimate (omega arith)
+  estimate-header Varint there = rw varint-estimate (omega arith)
+  estimate-header BitPacked there = rw bitPacked-estimate (omega arith)
+  estimate-header FrameOfReference there = rw frame-estimate (omega arith)
+  estimate-header RunLength there = rw runLength-estimate (omega arith)
+  estimate-header Dictionary there = rw (dictionary-estimate column (dictionary-few column there)) (omega arith)
+  estimate-header DeltaBinaryPacked there = rw (delta-estimate column (delta-two column there)) (omega arith)
 
--- Plain: 3 bytes for the empty column, at least 11 for any other
-pub plain-some : (column : List ℤ) → 1 ≤ length column → 11 ≤ lengthIn (estimatesOf column) Plain
-plain-some column h = rw plain-estimate (omega (arith, headerLen-some (length column)))
+  -- so at least 3
+  pub estimate-some : (e : Encoding) → availableIn (estimatesOf column) e ≡ true → 3 ≤ lengthIn (estimatesOf column) e
+  estimate-some e there = le-trans (headerLen-some (length column)) (estimate-header e there)
+
+  -- Plain's is at least 11, where there is a value
+  pub plain-some : 1 ≤ length column → 11 ≤ lengthIn (estimatesOf column) Plain
+  plain-some h = rw plain-estimate (omega (arith, headerLen-some (length column)))

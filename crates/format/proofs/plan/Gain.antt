@@ -3,7 +3,7 @@ use mathlib.Core.Path.{_≡_, refl, sym, ap, _∙_, subst}
 use mathlib.Core.Logic.{inl, inr, _↔_}
 use borrow.Author.Tests.{ltb-true, lt-ltb, le-leb, lt-leb, not-false}
 use Prim.Native.Nat.{ℕ, zero, suc, _+_, _*_, _^_, _≤_, _<_}
-use native.Mathlib.Nat.{zero-mul, mul-right-comm, mul-pos, mul-le-mul-right, mul-lt-mul-of-pos-right, lt-of-mul-lt-mul-right, lt-of-lt-of-le, le-refl, le-trans, le-of-lt, le-of-eq, lt-of-le-of-lt, eq-zero-or-pos}
+use native.Mathlib.Nat.{zero-mul, mul-right-comm, mul-pos, mul-le-mul-right, mul-le-mul-left, mul-lt-mul-of-pos-right, lt-of-mul-lt-mul-right, lt-of-lt-of-le, le-refl, le-trans, le-of-lt, le-of-eq, lt-of-le-of-lt, eq-zero-or-pos}
 use native.Mathlib.Omega.{arith}
 use mathlib.Core.Bool.{Bool, true, false, not, cond, _&&_, _||_}
 use lib.Dec.{T, leb, ltb, eqb, ltb→lt, lt→ltb, leb→le, nleb→lt, eqb→eq, lit<}
@@ -131,24 +131,19 @@ gain-mono level plain m n h k =
     let exceeded : T (lt product (asFloat m)) = holds-true (lt product (asFloat m)) (not-false (lt product (asFloat m)) k) in
     ap not (is-true (lt product (asFloat n)) (lt-le product (asFloat m) (asFloat n) (whole-not-negative m) (whole-not-negative n) exceeded (whole-mono m n h)))
 
--- what is no shorter than plain exceeds each of the three fractions
-over-1 : (plain bytes : ℕ) → plain ≤ bytes → 0 < plain → T (ltb (4 * plain) (5 * bytes))
-over-1 plain bytes h p = lt→ltb (4 * plain) (5 * bytes) (omega arith)
+-- what is no shorter than plain exceeds any share p / q of it that is below 1
+exceeds-share : (p q plain bytes : ℕ) → p < q → plain ≤ bytes → 0 < plain → T (ltb (p * plain) (q * bytes))
+exceeds-share p q plain bytes below h some =
+    lt→ltb (p * plain) (q * bytes) (lt-of-lt-of-le (mul-lt-mul-of-pos-right below some) (mul-le-mul-left q h))
 
-over-2 : (plain bytes : ℕ) → plain ≤ bytes → 0 < plain → T (ltb (19 * plain) (20 * bytes))
-over-2 plain bytes h p = lt→ltb (19 * plain) (20 * bytes) (omega arith)
-
-over-3 : (plain bytes : ℕ) → plain ≤ bytes → 0 < plain → T (ltb (99 * plain) (100 * bytes))
-over-3 plain bytes h p = lt→ltb (99 * plain) (100 * bytes) (omega arith)
-
--- whichever the level takes
+-- whichever of the three the level has
 pub exceeds-above : (level plain bytes : ℕ) → plain ≤ bytes → 0 < plain → T (exceeds level plain bytes)
-exceeds-above level plain bytes h p = go (leb level 3) (leb level 6)
+exceeds-above level plain bytes h some = go (leb level 3) (leb level 6)
   where
     go : (c d : Bool) → T (cond c (ltb (4 * plain) (5 * bytes)) (cond d (ltb (19 * plain) (20 * bytes)) (ltb (99 * plain) (100 * bytes))))
-    go true d = over-1 plain bytes h p
-    go false true = over-2 plain bytes h p
-    go false false = over-3 plain bytes h p
+    go true d = exceeds-share 4 5 plain bytes (lit< tt) h some
+    go false true = exceeds-share 19 20 plain bytes (lit< tt) h some
+    go false false = exceeds-share 99 100 plain bytes (lit< tt) h some
 
 -- what is no shorter than plain never meets the test, for a plain of 1 to 134,217,734; plain itself among it
 pub plain-no-gain : (level plain bytes : ℕ) → 0 < plain → plain ≤ 134217734 → plain ≤ bytes → meetsGain level plain bytes ≡ false
@@ -166,32 +161,35 @@ gain-fraction-all level plain bytes p P = go (leb bytes 134217734) (leb→le byt
         let h : plain ≤ bytes = le-trans P (le-of-lt (b tt)) in
         plain-no-gain level plain bytes p P h ∙ sym (ap not (is-true (exceeds level plain bytes) (exceeds-above level plain bytes h p)))
 
--- ---- CR 13: "plain is kept exactly if ..", for every plain and every length up to 134,217,734
+-- ---- CR 13, by levels
 
--- a test of order that says no
-test-iff : (m : Bool) (a b : ℕ) → m ≡ not (ltb a b) → (m ≡ false) ↔ (a < b)
-test-iff m a b e = (λ (h : m ≡ false). ltb-true a b (not-false (ltb a b) (sym e ∙ h)), λ (h : a < b). e ∙ ap not (lt-ltb a b h))
+-- p / q is the fraction of plain that a length may have at a level
+pub data LevelFraction (level : ℕ) : ℕ → ℕ → Type 0 where
+  -- "5 times the length exceeds 4 times plain at levels 1 to 3,
+  levels-1-3 : 1 ≤ level → level ≤ 3 → LevelFraction level 4 5
+  -- 20 times exceeds 19 times at 4 to 6,
+  levels-4-6 : 4 ≤ level → level ≤ 6 → LevelFraction level 19 20
+  -- and 100 times exceeds 99 times at 7 to 9"
+  levels-7-9 : 7 ≤ level → LevelFraction level 99 100
 
--- the fraction's test, where it is known which of the three it is
-at-level : (level plain bytes : ℕ) (c d : Bool) → leb level 3 ≡ c → leb level 6 ≡ d → plain ≤ 134217734 → bytes ≤ 134217734
-    → meetsGain level plain bytes ≡ not (cond c (ltb (4 * plain) (5 * bytes)) (cond d (ltb (19 * plain) (20 * bytes)) (ltb (99 * plain) (100 * bytes))))
-at-level level plain bytes c d C D P B = gain-fraction level plain bytes P B ∙ simp (C, D)
+-- level 0 has none
+pub level-positive : {level p q : ℕ} → LevelFraction level p q → 1 ≤ level
+level-positive (levels-1-3 from to) = from
+level-positive (levels-4-6 from to) = omega arith
+level-positive (levels-7-9 from) = omega arith
 
--- "5 times the length exceeds 4 times plain at levels 1 to 3"
-pub kept-1-3 : (level plain bytes : ℕ) → level ≤ 3 → plain ≤ 134217734 → bytes ≤ 134217734
-    → (meetsGain level plain bytes ≡ false) ↔ (4 * plain < 5 * bytes)
-kept-1-3 level plain bytes L P B =
-    test-iff (meetsGain level plain bytes) (4 * plain) (5 * bytes) (at-level level plain bytes true true (le-leb level 3 L) (le-leb level 6 (omega arith)) P B)
+-- the test on whole numbers, at a level whose fraction is known
+exceeds-at-level : {level p q : ℕ} → LevelFraction level p q → (plain bytes : ℕ) → exceeds level plain bytes ≡ ltb (p * plain) (q * bytes)
+exceeds-at-level {level} (levels-1-3 from to) plain bytes = simp (le-leb level 3 to)
+exceeds-at-level {level} (levels-4-6 from to) plain bytes = simp (lt-leb level 3 from, le-leb level 6 to)
+exceeds-at-level {level} (levels-7-9 from) plain bytes = simp (lt-leb level 3 (omega arith), lt-leb level 6 from)
 
--- "20 times exceeds 19 times at 4 to 6"
-pub kept-4-6 : (level plain bytes : ℕ) → 4 ≤ level → level ≤ 6 → plain ≤ 134217734 → bytes ≤ 134217734
-    → (meetsGain level plain bytes ≡ false) ↔ (19 * plain < 20 * bytes)
-kept-4-6 level plain bytes K L P B =
-    test-iff (meetsGain level plain bytes) (19 * plain) (20 * bytes) (at-level level plain bytes false true (lt-leb level 3 (omega arith)) (le-leb level 6 L) P B)
-
--- "and 100 times exceeds 99 times at 7 to 9"
-pub kept-7-9 : (level plain bytes : ℕ) → 7 ≤ level → plain ≤ 134217734 → bytes ≤ 134217734
-    → (meetsGain level plain bytes ≡ false) ↔ (99 * plain < 100 * bytes)
-kept-7-9 level plain bytes K P B =
-    test-iff (meetsGain level plain bytes) (99 * plain) (100 * bytes)
-    (at-level level plain bytes false false (lt-leb level 3 (omega arith)) (lt-leb level 6 (omega arith)) P B)
+-- a length does not meet the f64 test exactly if q times it exceeds p times plain
+pub gain-at-level : {level p q : ℕ} → LevelFraction level p q → (plain bytes : ℕ) → plain ≤ 134217734 → bytes ≤ 134217734
+    → (meetsGain level plain bytes ≡ false) ↔ (p * plain < q * bytes)
+gain-at-level {level} {p} {q} fraction plain bytes P B =
+    let same : meetsGain level plain bytes ≡ not (ltb (p * plain) (q * bytes)) =
+    gain-fraction level plain bytes P B ∙ ap not (exceeds-at-level fraction plain bytes) in (
+      λ (h : meetsGain level plain bytes ≡ false). ltb-true (p * plain) (q * bytes) (not-false (ltb (p * plain) (q * bytes)) (sym same ∙ h)),
+      λ (h : p * plain < q * bytes). same ∙ ap not (lt-ltb (p * plain) (q * bytes) h),
+    )
