@@ -41,21 +41,18 @@ pub data ReasonCase (level count : ℕ) (es : SizeEstimates) (b : Encoding) : Pl
 -- every reason is one of these cases: by the four tests in their order
 pub reasonOf-case : (level count : ℕ) (es : SizeEstimates) (b : Encoding) → ReasonCase level count es b (reasonOf level count es b)
 unfolding reasonOf
-reasonOf-case level count es b =
-    go (eqb count 0) (eqb level 0) (eqb (idOf b) 1) (meetsGain level (lengthIn es Plain) (lengthIn es b))
-    (eqb-true count 0) (eqb-false count 0) (eqb-true level 0) (eqb-false level 0) (eqb-true (idOf b) 1) (eqb-false (idOf b) 1) refl
+reasonOf-case level count es b = go (eqb count 0) (eqb level 0) (eqb (idOf b) 1) (meetsGain level (lengthIn es Plain) (lengthIn es b)) refl refl refl refl
   where
-    some : (n : ℕ) → (n ≡ 0 → ⊥) → 0 < n
-    some n h = omega arith
+    some : (n : ℕ) → eqb n 0 ≡ false → 0 < n
+    some n h = let other : n ≡ 0 → ⊥ = eqb-false n 0 h in omega arith
 
-    go : (c l p t : Bool) → (c ≡ true → count ≡ 0) → (c ≡ false → count ≡ 0 → ⊥) → (l ≡ true → level ≡ 0) → (l ≡ false → level ≡ 0 → ⊥)
-        → (p ≡ true → idOf b ≡ 1) → (p ≡ false → idOf b ≡ 1 → ⊥) → meetsGain level (lengthIn es Plain) (lengthIn es b) ≡ t
+    go : (c l p t : Bool) → eqb count 0 ≡ c → eqb level 0 ≡ l → eqb (idOf b) 1 ≡ p → meetsGain level (lengthIn es Plain) (lengthIn es b) ≡ t
         → ReasonCase level count es b (cond c Empty (cond l CompressionDisabled (cond (not p && not t) GainBelowThreshold SmallestEstimate)))
-    go true l p t c1 c0 l1 l0 p1 p0 e = no-values (c1 refl)
-    go false true p t c1 c0 l1 l0 p1 p0 e = level-0 (some count (c0 refl)) (l1 refl)
-    go false false true t c1 c0 l1 l0 p1 p0 e = best-is-plain (some count (c0 refl)) (some level (l0 refl)) (id-same b Plain (p1 refl))
-    go false false false true c1 c0 l1 l0 p1 p0 e = gain-met (some count (c0 refl)) (some level (l0 refl)) (λ (q : b ≡ Plain). p0 refl (ap idOf q)) e
-    go false false false false c1 c0 l1 l0 p1 p0 e = gain-not-met (some count (c0 refl)) (some level (l0 refl)) (λ (q : b ≡ Plain). p0 refl (ap idOf q)) e
+    go true l p t hc hl hp ht = no-values (eqb-true count 0 hc)
+    go false true p t hc hl hp ht = level-0 (some count hc) (eqb-true level 0 hl)
+    go false false true t hc hl hp ht = best-is-plain (some count hc) (some level hl) (id-same b Plain (eqb-true (idOf b) 1 hp))
+    go false false false true hc hl hp ht = gain-met (some count hc) (some level hl) (λ (q : b ≡ Plain). eqb-false (idOf b) 1 hp (ap idOf q)) ht
+    go false false false false hc hl hp ht = gain-not-met (some count hc) (some level hl) (λ (q : b ≡ Plain). eqb-false (idOf b) 1 hp (ap idOf q)) ht
 
 -- ---- the fields of a plan: by computing
 
