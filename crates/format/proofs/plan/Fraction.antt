@@ -16,7 +16,7 @@ use lib.Ieee.Order.{round-mono}
 use lib.Ieee.Scale.{grid}
 use lib.Ieee.Back.{round-whole}
 use lib.Ieee.Positive.{positive-of-value, mul-at, values-of-le, first-pos}
-use Rattle.format.proofs.plan.Rounding.{value, grid-near, same-test, lt-of-values, not-lt}
+use Rattle.format.proofs.plan.Rounding.{round-value, grid-near, same-test, lt-of-values}
 
 -- ---- a share M / D that is near p / q: by the laws of products, since omega's numbers end at 38 digits
 
@@ -51,6 +51,9 @@ dn-of p q m n s D M Q h e k g =
     let b2 : D * q ≡ q * D = mul-comm D q in
     omega arith)
     Q
+
+not-lt : (x y : ℕ) → (x < y → ⊥) → y ≤ x
+not-lt x y h = omega arith
 
 -- ---- one share, M / 2 ^ 53, that stands for the fraction p / q
 -- what is at most s / 256 of L, s being one less than 256 * m, is less than m of L
@@ -101,7 +104,7 @@ module _ (share : Float) (M p q : ℕ)
       A = lt-of-le-of-lt (le-trans (mul-le-mul-right M N) (mul-le-mul-left 134217734 M-le)) (lit< tt)
 
       R-val : HasValue (round binary64 false (n * M) (1 * 2 ^ 53)) false (grid binary64 (n * M) (1 * 2 ^ 53)) (2 ^ low binary64)
-      R-val = value binary64 (n * M) (1 * 2 ^ 53) C A
+      R-val = round-value binary64 (n * M) (1 * 2 ^ 53) C A
 
       R-is : 0 < n → mul binary64 (ofInt binary64 (pos n)) share ≡ round binary64 false (n * M) (1 * 2 ^ 53)
       R-is P =
