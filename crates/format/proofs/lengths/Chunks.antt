@@ -1,6 +1,7 @@
--- The chunks of a column against its estimates, over the encodings: what the third demand asks.
+-- How long a chunk is, over the encodings: at most the estimated bytes where the encoding is available, and at most 20 bytes a value and 16 more. Both are by the
+-- estimates (Exact, Limits), Delta's by its bound (DeltaBound).
 use mathlib.Core.Path.{_≡_, refl}
-use Prim.Native.Nat.{_+_, _*_, _≤_, _<_}
+use Prim.Native.Nat.{_+_, _*_, _≤_}
 use native.Mathlib.Nat.{le-trans, le-of-eq}
 use native.Mathlib.Omega.{arith}
 use mathlib.Core.Bool.{true}
@@ -15,19 +16,13 @@ use Rattle.format.specs.Estimates.{estimatesOf, lengthIn, availableIn}
 use Rattle.format.specs.Keys.{Keys}
 use Rattle.format.specs.declared.Encoding.{Encoding}
 use Rattle.format.specs.declared.Encoding.the-variants.{Plain, Varint, BitPacked, FrameOfReference, RunLength, Dictionary, DeltaBinaryPacked}
-use Rattle.format.proofs.lengths.Estimates.{plain-available, dictionary-few, delta-two}
+use Rattle.format.proofs.lengths.Estimates.{dictionary-few, delta-two}
 use Rattle.format.proofs.lengths.Exact.{plain-exact, varint-exact, bitPacked-exact, frame-exact, runLength-exact, dictionary-exact}
 use Rattle.format.proofs.lengths.DeltaBound.{delta-most}
-use Rattle.format.proofs.lengths.Limits.{estimate-most, estimate-some, plain-some, plain-limit, headerLen-most, varintLen-le}
+use Rattle.format.proofs.lengths.Limits.{estimate-most, headerLen-most, varintLen-le}
 use Rattle.format.proofs.lengths.DeltaLength.{blocksLen, delta-length, delta-length-none}
 
--- Delta, where it is available: at most the estimated bytes
-pub delta-at-most :
-    (column : List ℤ) → availableIn (estimatesOf column) DeltaBinaryPacked ≡ true
-    → length (chunkOf DeltaBinaryPacked column) ≤ lengthIn (estimatesOf column) DeltaBinaryPacked
-delta-at-most column there = delta-most column (delta-two column there)
-
--- any available encoding: at most the estimated bytes
+-- the chunk in an available encoding has at most the estimated bytes
 pub chunk-at-most :
     (column : List ℤ) → Keys column → (e : Encoding) → availableIn (estimatesOf column) e ≡ true → length (chunkOf e column) ≤ lengthIn (estimatesOf column) e
 chunk-at-most column keys Plain there = le-of-eq (plain-exact column)
@@ -36,40 +31,16 @@ chunk-at-most column keys BitPacked there = le-of-eq (bitPacked-exact column)
 chunk-at-most column keys FrameOfReference there = le-of-eq (frame-exact column keys)
 chunk-at-most column keys RunLength there = le-of-eq (runLength-exact column)
 chunk-at-most column keys Dictionary there = le-of-eq (dictionary-exact column (dictionary-few column there))
-chunk-at-most column keys DeltaBinaryPacked there = delta-at-most column there
+chunk-at-most column keys DeltaBinaryPacked there = delta-most column (delta-two column there)
 
--- ---- Plain, for the test of gain: it is never 0, and at most 134,217,734
-
--- 11 bytes at least, where there is a value
-pub plain-chunk-some : (column : List ℤ) → 1 ≤ length column → 11 ≤ length (chunkOf Plain column)
-plain-chunk-some column h = rw plain-exact (plain-some column h)
-
--- 134,217,734 at most
-pub plain-chunk-limit : (column : List ℤ) → length column ≤ maxChunkElements → length (chunkOf Plain column) ≤ 134217734
-plain-chunk-limit column size = rw plain-exact (plain-limit column size)
-
--- not 0, of any column
-pub plain-chunk-positive : (column : List ℤ) → 0 < length (chunkOf Plain column)
-plain-chunk-positive column = rw plain-exact (omega (arith, estimate-some column Plain (plain-available column)))
-
--- so no share of it that the test of gain names (4/5, 19/20, 99/100) reaches it: Plain itself never meets the test
-pub plain-chunk-shares :
-    (column : List ℤ)
-    → (4 * length (chunkOf Plain column) < 5 * length (chunkOf Plain column))
-    × (19 * length (chunkOf Plain column) < 20 * length (chunkOf Plain column))
-    × (99 * length (chunkOf Plain column) < 100 * length (chunkOf Plain column))
-plain-chunk-shares column = let p = plain-chunk-positive column in (omega arith, omega arith, omega arith)
-
--- ---- every chunk that writing stores is short
-
--- Delta, of fewer than two values too
-pub delta-chunk-most : (column : List ℤ) → length column ≤ maxChunkElements → length (chunkOf DeltaBinaryPacked column) ≤ 16 + 20 * length column
+-- Delta's chunk, of fewer than two values too, where there is no estimate
+delta-chunk-most : (column : List ℤ) → length column ≤ maxChunkElements → length (chunkOf DeltaBinaryPacked column) ≤ 16 + 20 * length column
 unfolding blockCount blocksLen
 delta-chunk-most [] size = rw delta-length-none (omega (arith, headerLen-most 0 size))
 delta-chunk-most (v ∷ []) size = rw delta-length (omega (arith, headerLen-most 1 size, varintLen-le v))
 delta-chunk-most (v ∷ w ∷ vs) size = le-trans (delta-most (v ∷ w ∷ vs) (omega arith)) (estimate-most (v ∷ w ∷ vs) size DeltaBinaryPacked)
 
--- any chunk that writing does not refuse: at most 20 bytes a value and 16 more
+-- a chunk that writing does not refuse has at most 20 bytes a value and 16 more
 pub chunk-most :
     (column : List ℤ) → Keys column → length column ≤ maxChunkElements → (e : Encoding) → (e ≡ Dictionary → length (distinct column) ≤ maxDictionaryCardinality)
     → length (chunkOf e column) ≤ 16 + 20 * length column

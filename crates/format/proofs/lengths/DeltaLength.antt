@@ -1,4 +1,5 @@
--- Delta: the exact length of the chunk, as a sum over its blocks (what a writer has to find before it stores a byte).
+-- Delta: the exact length of the chunk, as a sum over its blocks (what writing has to find before it stores a byte). A block's width is that of its span, the
+-- largest number packed, since every delta is a key.
 use mathlib.Core.Path.{_≡_, refl, ap₂, _∙_}
 use Prim.Native.Nat.{ℕ, zero, suc, _+_}
 use native.Mathlib.Omega.{arith}
@@ -22,21 +23,21 @@ use Rattle.format.proofs.numbers.Extremes.{largest-gaps}
 use Rattle.format.proofs.lengths.Parts.{length-blockBytes, length-deltas}
 use Rattle.format.proofs.lengths.Exact.{length-chunk}
 
--- one block's bytes, by its least and greatest delta
+-- the bytes of one block, by its least and greatest delta
 unfoldable pub blockLen : List ℤ → ℕ
 blockLen ds = varintLen (least ds) + (1 + packedLen (length ds) (width (gap (least ds) (greatest ds))))
 
--- k blocks: a walk in which ds are still to come
+-- the bytes of k blocks: a walk in which ds are still to come
 unfoldable pub blocksLen : ℕ → List ℤ → ℕ
 blocksLen zero ds = 0
 blocksLen (suc k) ds = blockLen (take deltaBlockSize ds) + blocksLen k (drop deltaBlockSize ds)
 
--- so long is a block of keys
+-- a block of keys has that length,
 pub length-block : (ds : List ℤ) → All Key ds → length (blockBytes ds) ≡ blockLen ds
 unfolding blockLen
 length-block ds keys = length-blockBytes ds ∙ rw (largest-gaps ds keys)
 
--- and so long are k blocks
+-- and so have k blocks
 pub length-blocks : (k : ℕ) (ds : List ℤ) → All Key ds → length (blocksBytes k ds) ≡ blocksLen k ds
 unfolding blocksBytes blocksLen
 length-blocks zero ds keys = refl
@@ -49,7 +50,7 @@ pub deltaBlockSize-len : uvarintLen deltaBlockSize ≡ 2
 unfolding uvarintLen width leadingZeros
 deltaBlockSize-len = refl
 
--- the whole chunk of a column that is not empty: for any values, as every delta is a key
+-- the chunk of a column that is not empty: header, first value, block size, and the blocks
 pub delta-length :
     (first : ℤ) (rest : List ℤ)
     → length (chunkOf DeltaBinaryPacked (first ∷ rest))
@@ -57,9 +58,16 @@ pub delta-length :
 unfolding bodyOf deltaBody
 delta-length first rest =
     length-chunk DeltaBinaryPacked (first ∷ rest)
-    ∙ simp (length-append, length-varintBytes, length-uvarintBytes, deltaBlockSize-len, length-deltas, length-blocks (blockCount deltaBlockSize (length rest)) (deltas (first ∷ rest)) (deltas-keys (first ∷ rest)))
+    ∙ simp (
+      length-append,
+      length-varintBytes,
+      length-uvarintBytes,
+      deltaBlockSize-len,
+      length-deltas,
+      length-blocks (blockCount deltaBlockSize (length rest)) (deltas (first ∷ rest)) (deltas-keys (first ∷ rest)),
+    )
 
--- and of the empty one
+-- the chunk of the empty column is a header alone: "with count 0 nothing more"
 pub delta-length-none : length (chunkOf DeltaBinaryPacked []) ≡ headerLen 0
 unfolding bodyOf deltaBody
 delta-length-none = length-chunk DeltaBinaryPacked [] ∙ omega arith

@@ -1,6 +1,8 @@
--- The book's estimates of a column, one by one, and which of them are available.
+-- The estimates of a column, one by one, as sums over the column, and when each is available. All of it is by computing `estimatesOf`: Dictionary and Delta
+-- are available by a test, which is put first; an unavailable one's length is 0.
 use mathlib.Core.Path.{_≡_, refl, sym, _∙_}
 use Prim.Native.Nat.{_+_, _-_, _*_, max, _≤_, _<_}
+use mathlib.Core.Logic.{_≢_}
 use mathlib.Core.Bool.{Bool, true, false, cond}
 use mathlib.Core.List.{List, map}
 use lib.IntN.{ℤ, pos}
@@ -21,70 +23,66 @@ use Rattle.format.specs.Delta.{deltaBlockSize, blockCount}
 use Rattle.format.specs.Statistics.{runLen, cardinalityOf, statsOf}
 use Rattle.format.specs.Estimates.{isExact, entriesLen, plainEstimate, varintEstimate, bitPackedEstimate, frameEstimate, runLengthEstimate, dictionaryEstimate, deltaEstimate, estimatesFrom, estimatesOf, lengthIn, availableIn}
 use Rattle.format.specs.declared.Cardinality.the-variants.{Exact, AtLeast}
+use Rattle.format.specs.declared.Encoding.{Encoding}
 use Rattle.format.specs.declared.Encoding.the-variants.{Plain, Varint, BitPacked, FrameOfReference, RunLength, Dictionary, DeltaBinaryPacked}
 use Rattle.format.proofs.numbers.Distinct.{distinctValues-all}
 
--- seven of each, as the struct has them
+-- the lists have seven places, as the struct's arrays have
 pub estimates-seven : (column : List ℤ) → (length (estimatesOf column .lengths) ≡ 7) × (length (estimatesOf column .available) ≡ 7)
 unfolding estimatesOf estimatesFrom
 estimates-seven column = (refl, refl)
 
--- ---- availability
+-- ---- availability: "Dictionary needs at most 16,384 distinct values, Delta at least two values; the other five need nothing to be available."
 
--- five need nothing
+-- the other five
+pub always-available : (column : List ℤ) (e : Encoding) → e ≢ Dictionary → e ≢ DeltaBinaryPacked → availableIn (estimatesOf column) e ≡ true
+unfolding availableIn estimatesOf estimatesFrom
+always-available column Plain d b = refl
+always-available column Varint d b = refl
+always-available column BitPacked d b = refl
+always-available column FrameOfReference d b = refl
+always-available column RunLength d b = refl
+always-available column Dictionary d b = absurd (d refl)
+always-available column DeltaBinaryPacked d b = absurd (b refl)
+
+-- Plain among them
 pub plain-available : (column : List ℤ) → availableIn (estimatesOf column) Plain ≡ true
 unfolding availableIn estimatesOf estimatesFrom
 plain-available column = refl
 
-pub varint-available : (column : List ℤ) → availableIn (estimatesOf column) Varint ≡ true
-unfolding availableIn estimatesOf estimatesFrom
-varint-available column = refl
-
-pub bitPacked-available : (column : List ℤ) → availableIn (estimatesOf column) BitPacked ≡ true
-unfolding availableIn estimatesOf estimatesFrom
-bitPacked-available column = refl
-
-pub frame-available : (column : List ℤ) → availableIn (estimatesOf column) FrameOfReference ≡ true
-unfolding availableIn estimatesOf estimatesFrom
-frame-available column = refl
-
-pub runLength-available : (column : List ℤ) → availableIn (estimatesOf column) RunLength ≡ true
-unfolding availableIn estimatesOf estimatesFrom
-runLength-available column = refl
-
--- the cardinality is exact where there are not too many distinct values
-pub isExact-is : (column : List ℤ) → isExact (cardinalityOf column) ≡ leb (length (distinct column)) maxDictionaryCardinality
+-- the cardinality is exact where there are at most 16,384 distinct values
+isExact-cardinality : (column : List ℤ) → isExact (cardinalityOf column) ≡ leb (length (distinct column)) maxDictionaryCardinality
 unfolding cardinalityOf tooManyDistinct
-isExact-is column = go (ltb maxDictionaryCardinality (length (distinct column))) refl
+isExact-cardinality column = go (ltb maxDictionaryCardinality (length (distinct column))) refl
   where
     go : (t : Bool) → ltb maxDictionaryCardinality (length (distinct column)) ≡ t
         → isExact (cond t (AtLeast (maxDictionaryCardinality + 1)) (Exact (length (distinct column)))) ≡ leb (length (distinct column)) maxDictionaryCardinality
-    go true e = sym (lt-leb (length (distinct column)) maxDictionaryCardinality (ltb-true maxDictionaryCardinality (length (distinct column)) e))
-    go false e = sym (le-leb (length (distinct column)) maxDictionaryCardinality (ltb-false maxDictionaryCardinality (length (distinct column)) e))
+    go true e = sym (lt-leb _ _ (ltb-true maxDictionaryCardinality (length (distinct column)) e))
+    go false e = sym (le-leb _ _ (ltb-false maxDictionaryCardinality (length (distinct column)) e))
 
--- Dictionary: exactly where there are at most 16,384 distinct values
+-- Dictionary is available exactly where there are at most 16,384 distinct values
 pub dictionary-availability : (column : List ℤ) → availableIn (estimatesOf column) Dictionary ≡ leb (length (distinct column)) maxDictionaryCardinality
 unfolding availableIn estimatesOf estimatesFrom statsOf
-dictionary-availability column = isExact-is column
+dictionary-availability column = isExact-cardinality column
 
--- available where there are so few
+-- so it is where there are so few,
 pub dictionary-available : (column : List ℤ) → length (distinct column) ≤ maxDictionaryCardinality → availableIn (estimatesOf column) Dictionary ≡ true
 dictionary-available column h = dictionary-availability column ∙ le-leb _ _ h
 
--- there are so few where it is available
+-- and only there
 pub dictionary-few : (column : List ℤ) → availableIn (estimatesOf column) Dictionary ≡ true → length (distinct column) ≤ maxDictionaryCardinality
 dictionary-few column e = leb-true _ _ (sym (dictionary-availability column) ∙ e)
 
--- Delta: exactly where there are two values or more
+-- Delta is available exactly where there are at least two values
 pub delta-availability : (column : List ℤ) → availableIn (estimatesOf column) DeltaBinaryPacked ≡ leb 2 (length column)
 unfolding availableIn estimatesOf estimatesFrom statsOf
 delta-availability column = refl
 
--- available where there are two
+-- so it is where there are two,
 pub delta-available : (column : List ℤ) → 2 ≤ length column → availableIn (estimatesOf column) DeltaBinaryPacked ≡ true
 delta-available column h = delta-availability column ∙ le-leb _ _ h
 
--- there are two where it is available
+-- and only there
 pub delta-two : (column : List ℤ) → availableIn (estimatesOf column) DeltaBinaryPacked ≡ true → 2 ≤ length column
 delta-two column e = leb-true _ _ (sym (delta-availability column) ∙ e)
 
@@ -124,7 +122,7 @@ pub dictionary-estimate :
     → lengthIn (estimatesOf column) Dictionary
     ≡ headerLen (length column) + uvarintLen (length (distinct column)) + entriesLen (distinct column) + 1 + packedLen (length column) (codeWidth (length (distinct column)))
 unfolding lengthIn estimatesOf estimatesFrom statsOf dictionaryEstimate
-dictionary-estimate column h = rw (isExact-is column, le-leb _ _ h, distinctValues-all column h)
+dictionary-estimate column h = rw (isExact-cardinality column, le-leb _ _ h, distinctValues-all column h)
 
 -- Delta, where available: header, first value, block size, the charge of every block, and all deltas packed at the width of `delta_span`
 pub delta-estimate :
@@ -136,12 +134,12 @@ pub delta-estimate :
 unfolding lengthIn estimatesOf estimatesFrom statsOf deltaEstimate
 delta-estimate column h = rw (le-leb _ _ h)
 
--- where they are not available they are 0
+-- "An unavailable candidate's length is always 0": Dictionary's,
 pub dictionary-none : (column : List ℤ) → maxDictionaryCardinality < length (distinct column) → lengthIn (estimatesOf column) Dictionary ≡ 0
 unfolding lengthIn estimatesOf estimatesFrom statsOf
-dictionary-none column h = rw (isExact-is column, lt-leb _ _ h)
+dictionary-none column h = rw (isExact-cardinality column, lt-leb _ _ h)
 
--- Delta too
+-- and Delta's
 pub delta-none : (column : List ℤ) → length column < 2 → lengthIn (estimatesOf column) DeltaBinaryPacked ≡ 0
 unfolding lengthIn estimatesOf estimatesFrom statsOf
 delta-none column h = rw (lt-leb _ _ h)

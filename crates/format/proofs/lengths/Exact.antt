@@ -1,4 +1,5 @@
--- The estimates are the lengths of the chunks, for every encoding but Delta.
+-- "All but Delta are exact lengths": an available estimate but Delta's is the length of the column's chunk. For each encoding the chunk's length, part by part
+-- as it is written (Parts), is the sum that is estimated (Estimates).
 use mathlib.Core.Path.{_≡_, refl, _∙_}
 use mathlib.Core.Logic.{_≢_}
 use Prim.Native.Nat.{_+_, _≤_}
@@ -69,7 +70,7 @@ dictionary-exact column few =
     length-chunk Dictionary column
     ∙ rw (dictionary-estimate column few) (simp (length-append, length-uvarintBytes, length-entryBytes, length-packed, length-map) (omega arith))
 
--- THE LAW, over the encodings: where an estimate but Delta's is available, it is the length of the chunk
+-- over the encodings: where an estimate but Delta's is available, it is the length of the chunk
 pub chunk-exact :
     (column : List ℤ) → Keys column → (e : Encoding) → e ≢ DeltaBinaryPacked → availableIn (estimatesOf column) e ≡ true
     → length (chunkOf e column) ≡ lengthIn (estimatesOf column) e

@@ -1,4 +1,5 @@
--- How long a chunk and an estimate can be: every number that is summed up on the way fits 64 bits, and is exact as an f64.
+-- How long an estimate can be, for a column of up to 2^24 values: at most 335,544,336 bytes, and Plain's at most 134,217,734. So every number that is summed up
+-- on the way fits 64 bits, and is exact as an f64. A varint has at most 10 bytes and a width at most 64 bits, and each estimate sums so many of them a value.
 use mathlib.Core.Path.{_≡_}
 use Prim.Native.Nat.{ℕ, suc, _+_, _-_, _*_, max, _≤_}
 use native.Mathlib.Nat.{le-refl, le-trans, mul-le-mul-left, suc-mul}
@@ -22,7 +23,7 @@ use Rattle.format.specs.Statistics.{runLen}
 use Rattle.format.specs.Estimates.{gapsLen, entriesLen, estimatesOf, lengthIn, availableIn}
 use Rattle.format.specs.declared.Encoding.{Encoding}
 use Rattle.format.specs.declared.Encoding.the-variants.{Plain, Varint, BitPacked, FrameOfReference, RunLength, Dictionary, DeltaBinaryPacked}
-use Rattle.format.proofs.numbers.Widths.{width-le, width-least, uvarintLen-pos, uvarintLen-le, uvarintLen-least}
+use Rattle.format.proofs.numbers.Widths.{width-le, uvarintLen-pos, uvarintLen-le, uvarintLen-least}
 use Rattle.format.proofs.numbers.Packing.{packedLen-most}
 use Rattle.format.proofs.numbers.Distinct.{distinct-most}
 use Rattle.format.proofs.lengths.Estimates.{plain-estimate, varint-estimate, bitPacked-estimate, frame-estimate, runLength-estimate, dictionary-estimate, delta-estimate, dictionary-none, delta-none, dictionary-few, delta-two}
@@ -30,82 +31,76 @@ use Rattle.format.proofs.lengths.DeltaLength.{deltaBlockSize-len}
 
 -- ---- the parts
 
--- a signed varint: at most 10 bytes
+-- a signed varint has at most 10 bytes
 pub varintLen-le : (v : ℤ) → varintLen v ≤ 10
 unfolding varintLen
 varintLen-le v = uvarintLen-le (zigzag v)
 
--- a run: at most 20
+-- a run has at most 20
 pub runLen-le : (r : Run) → runLen r ≤ 20
 unfolding runLen
 runLen-le r = omega (arith, varintLen-le (r .key), uvarintLen-le (r .times))
 
--- a sum of numbers that are at most c
-pub total-most {ℓ} : {A : Type ℓ} (f : A → ℕ) (c : ℕ) (l : List A) → ((a : A) → f a ≤ c) → total (map f l) ≤ length l * c
+-- a sum of numbers of at most c each
+total-most {ℓ} : {A : Type ℓ} (f : A → ℕ) (c : ℕ) (l : List A) → ((a : A) → f a ≤ c) → total (map f l) ≤ length l * c
 unfolding total
 total-most f c [] h = omega arith
 total-most f c (a ∷ as') h = rw suc-mul (omega (arith, h a, total-most f c as' h))
 
--- `varint_body_bytes`: at most 10 bytes a value
-pub varintBytes-most : (column : List ℤ) → total (map varintLen column) ≤ 10 * length column
-varintBytes-most column = omega (arith, total-most varintLen 10 column varintLen-le)
+-- `varint_body_bytes` is at most 10 bytes a value
+pub total-varintLen-most : (column : List ℤ) → total (map varintLen column) ≤ 10 * length column
+total-varintLen-most column = omega (arith, total-most varintLen 10 column varintLen-le)
 
--- `run_count`: at most the values
-pub runsFrom-most : (key : ℤ) (times : ℕ) (vs : List ℤ) → length (runsFrom key times vs) ≤ suc (length vs)
+-- a walk ends at most one run for each value to come, and one more
+runsFrom-most : (key : ℤ) (times : ℕ) (vs : List ℤ) → length (runsFrom key times vs) ≤ suc (length vs)
 unfolding runsFrom
 runsFrom-most key times [] = le-refl 1
 runsFrom-most key times (v ∷ vs) = rw length-append (go (eqZ key v) (runsFrom-most v (cond (eqZ key v) (times + 1) 1) vs))
   where
-    go : (t : Bool) → length (runsFrom v (cond (eqZ key v) (times + 1) 1) vs) ≤ suc (length vs)
-        → length {A = Run} (cond t [] (record { key = key; times = times } ∷ [])) + length (runsFrom v (cond (eqZ key v) (times + 1) 1) vs) ≤ suc (length (v ∷ vs))
+    go : (t : Bool) {n : ℕ} → n ≤ suc (length vs) → length {A = Run} (cond t [] (record { key = key; times = times } ∷ [])) + n ≤ suc (length (v ∷ vs))
     go true i = omega arith
     go false i = omega arith
 
--- of a whole column
+-- `run_count` is at most the count
 pub runs-most : (column : List ℤ) → length (runs column) ≤ length column
 unfolding runs
 runs-most [] = le-refl 0
 runs-most (v ∷ vs) = runsFrom-most v 1 vs
 
--- `run_length_body_bytes`: at most 20 bytes a value
-pub runBytes-most : (column : List ℤ) → total (map runLen (runs column)) ≤ 20 * length column
-runBytes-most column = omega (arith, total-most runLen 20 (runs column) runLen-le, runs-most column)
+-- `run_length_body_bytes` is at most 20 bytes a value
+pub total-runLen-most : (column : List ℤ) → total (map runLen (runs column)) ≤ 20 * length column
+total-runLen-most column = omega (arith, total-most runLen 20 (runs column) runLen-le, runs-most column)
 
--- a dictionary's entries: at most 10 bytes each
-pub gapsLen-most : (last : ℤ) (es : List ℤ) → gapsLen last es ≤ 10 * length es
+-- the gaps of a dictionary have at most 10 bytes each,
+gapsLen-most : (last : ℤ) (es : List ℤ) → gapsLen last es ≤ 10 * length es
 unfolding gapsLen
 gapsLen-most last [] = omega arith
 gapsLen-most last (e ∷ es) = omega (arith, uvarintLen-le (gap last e), gapsLen-most e es)
 
--- the first entry too
+-- and so have its entries
 pub entriesLen-most : (es : List ℤ) → entriesLen es ≤ 10 * length es
 unfolding entriesLen
 entriesLen-most [] = omega arith
 entriesLen-most (e ∷ es) = omega (arith, varintLen-le e, gapsLen-most e es)
 
--- the width of codes: at most 64
+-- the width of codes is at most 64
 pub codeWidth-le : (entries : ℕ) → codeWidth entries ≤ 64
 unfolding codeWidth
 codeWidth-le entries = width-le (entries - 1)
 
--- and at most 14 where Dictionary is written
-pub codeWidth-few : (entries : ℕ) → entries ≤ maxDictionaryCardinality → codeWidth entries ≤ 14
-unfolding codeWidth
-codeWidth-few entries h = width-least (entries - 1) 14 (omega arith)
-
--- the header: 3 bytes at least
+-- a header has at least 3 bytes
 pub headerLen-some : (n : ℕ) → 3 ≤ headerLen n
 unfolding headerLen
 headerLen-some n = omega (arith, uvarintLen-pos n)
 
--- a count's varint: at most 4 bytes
-pub countLen-most : (n : ℕ) → n ≤ maxChunkElements → uvarintLen n ≤ 4
-countLen-most n h = uvarintLen-least n 4 (omega arith) (omega arith)
+-- the varint of a count has at most 4 bytes,
+pub uvarintLen-count : (n : ℕ) → n ≤ maxChunkElements → uvarintLen n ≤ 4
+uvarintLen-count n h = uvarintLen-least n 4 (omega arith) (omega arith)
 
--- the whole header: at most 6
+-- so the header has at most 6
 pub headerLen-most : (n : ℕ) → n ≤ maxChunkElements → headerLen n ≤ 6
 unfolding headerLen
-headerLen-most n h = omega (arith, countLen-most n h)
+headerLen-most n h = omega (arith, uvarintLen-count n h)
 
 -- ---- the estimates of a column of up to 2^24 values, each
 
@@ -116,7 +111,7 @@ module _ (column : List ℤ) (size : length column ≤ maxChunkElements) where
 
   -- Varint
   pub varint-most : lengthIn (estimatesOf column) Varint ≤ 6 + 10 * length column
-  varint-most = rw varint-estimate (omega (arith, headerLen-most (length column) size, varintBytes-most column))
+  varint-most = rw varint-estimate (omega (arith, headerLen-most (length column) size, total-varintLen-most column))
 
   -- BitPacked
   pub bitPacked-most : lengthIn (estimatesOf column) BitPacked ≤ 7 + 8 * length column
@@ -133,8 +128,8 @@ module _ (column : List ℤ) (size : length column ≤ maxChunkElements) where
   -- RunLength
   pub runLength-most : lengthIn (estimatesOf column) RunLength ≤ 10 + 20 * length column
   runLength-most =
-      rw runLength-estimate
-      (omega (arith, headerLen-most (length column) size, countLen-most (length (runs column)) (le-trans (runs-most column) size), runBytes-most column))
+      let runs-size : length (runs column) ≤ maxChunkElements = le-trans (runs-most column) size in
+      rw runLength-estimate (omega (arith, headerLen-most (length column) size, uvarintLen-count (length (runs column)) runs-size, total-runLen-most column))
 
   -- Dictionary, available or not
   pub dictionary-most : lengthIn (estimatesOf column) Dictionary ≤ 11 + 18 * length column
@@ -147,7 +142,7 @@ module _ (column : List ℤ) (size : length column ≤ maxChunkElements) where
           (omega (
             arith,
             headerLen-most (length column) size,
-            countLen-most d (le-trans (distinct-most column) size),
+            uvarintLen-count d (le-trans (distinct-most column) size),
             distinct-most column,
             entriesLen-most (distinct column),
             packedLen-most (length column) (codeWidth d) (codeWidth-le d),
@@ -176,7 +171,7 @@ module _ (column : List ℤ) (size : length column ≤ maxChunkElements) where
           ))
       go (no one) = rw (delta-none column (omega arith)) (omega arith)
 
-  -- any of them: at most 20 bytes a value and 16 more
+  -- each is at most 20 bytes a value and 16 more
   pub estimate-most : (e : Encoding) → lengthIn (estimatesOf column) e ≤ 16 + 20 * length column
   estimate-most Plain = omega (arith, plain-most)
   estimate-most Varint = omega (arith, varint-most)
@@ -190,11 +185,11 @@ module _ (column : List ℤ) (size : length column ≤ maxChunkElements) where
       delta-below (yes two) = omega (arith, delta-estimate-most)
       delta-below (no one) = rw (delta-none column (omega arith)) (omega arith)
 
-  -- in numbers: Plain at most 134,217,734
+  -- in numbers: Plain is at most 134,217,734,
   pub plain-limit : lengthIn (estimatesOf column) Plain ≤ 134217734
   plain-limit = omega (arith, plain-most)
 
-  -- any at most 335,544,336, which is below 2 ^ 29
+  -- and each at most 335,544,336, which is below 2 ^ 29
   pub estimate-limit : (e : Encoding) → lengthIn (estimatesOf column) e ≤ 335544336
   estimate-limit e = omega (arith, estimate-most e)
 
