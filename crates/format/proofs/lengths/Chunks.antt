@@ -1,5 +1,5 @@
--- How long a chunk is, over the encodings: at most the estimated bytes where the encoding is available, and at most 20 bytes a value and 16 more. Both are by the
--- estimates (Exact, Limits), Delta's by its bound (DeltaBound).
+-- How long a chunk is, over the encodings: at most the estimated bytes where the encoding is available, and at most 20 bytes a value and 16 more. The first is
+-- by Exact, and for Delta by DeltaBound; the second by the limits of the estimates (Limits).
 use mathlib.Core.Path.{_≡_, refl}
 use Prim.Native.Nat.{_+_, _*_, _≤_}
 use native.Mathlib.Nat.{le-trans, le-of-eq}

@@ -1,6 +1,6 @@
 -- Delta: the chunk has at most the estimated bytes. A block's deltas lie between the least and the greatest of all deltas; so its least delta takes no more
--- bytes than the longer of those two, and its width is at most that of the whole span. Packing all deltas at that width in one piece takes no fewer bytes than
--- packing them block by block, as every block but the last fills whole bytes.
+-- bytes than the longer of those two, and its width is at most that of the whole span. At that width the deltas take as many bytes block by block as packed
+-- in one piece, since every block but the last fills whole bytes.
 use mathlib.Core.Path.{_≡_}
 use Prim.Native.Nat.{ℕ, zero, suc, _+_, _-_, _*_, max, min, _≤_, _<_}
 use native.Mathlib.Nat.{suc-mul}

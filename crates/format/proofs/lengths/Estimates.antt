@@ -100,19 +100,22 @@ varint-estimate column = refl
 
 -- BitPacked: header, width byte, and the ZigZags packed at the width of `max_zigzag`
 pub bitPacked-estimate :
-    (column : List ℤ) → lengthIn (estimatesOf column) BitPacked ≡ headerLen (length column) + 1 + packedLen (length column) (width (largest (map zigzag column)))
+    (column : List ℤ)
+    → lengthIn (estimatesOf column) BitPacked ≡ headerLen (length column) + 1 + packedLen (length column) (width (largest (map zigzag column)))
 unfolding lengthIn estimatesOf estimatesFrom statsOf bitPackedEstimate
 bitPacked-estimate column = refl
 
 -- FrameOfReference: header, nine bytes, and the differences packed at the width of `value_span`
 pub frame-estimate :
-    (column : List ℤ) → lengthIn (estimatesOf column) FrameOfReference ≡ headerLen (length column) + 9 + packedLen (length column) (width (gap (least column) (greatest column)))
+    (column : List ℤ)
+    → lengthIn (estimatesOf column) FrameOfReference ≡ headerLen (length column) + 9 + packedLen (length column) (width (gap (least column) (greatest column)))
 unfolding lengthIn estimatesOf estimatesFrom statsOf frameEstimate
 frame-estimate column = refl
 
 -- RunLength: header, run total, and `run_length_body_bytes`
 pub runLength-estimate :
-    (column : List ℤ) → lengthIn (estimatesOf column) RunLength ≡ headerLen (length column) + uvarintLen (length (runs column)) + total (map runLen (runs column))
+    (column : List ℤ)
+    → lengthIn (estimatesOf column) RunLength ≡ headerLen (length column) + uvarintLen (length (runs column)) + total (map runLen (runs column))
 unfolding lengthIn estimatesOf estimatesFrom statsOf runLengthEstimate
 runLength-estimate column = refl
 
@@ -120,7 +123,8 @@ runLength-estimate column = refl
 pub dictionary-estimate :
     (column : List ℤ) → length (distinct column) ≤ maxDictionaryCardinality
     → lengthIn (estimatesOf column) Dictionary
-    ≡ headerLen (length column) + uvarintLen (length (distinct column)) + entriesLen (distinct column) + 1 + packedLen (length column) (codeWidth (length (distinct column)))
+    ≡ headerLen (length column) + uvarintLen (length (distinct column)) + entriesLen (distinct column) + 1
+    + packedLen (length column) (codeWidth (length (distinct column)))
 unfolding lengthIn estimatesOf estimatesFrom statsOf dictionaryEstimate
 dictionary-estimate column h = rw (isExact-cardinality column, le-leb _ _ h, distinctValues-all column h)
 

@@ -89,7 +89,7 @@ unfolding codeWidth
 codeWidth-le entries = width-le (entries - 1)
 
 -- a header has at least 3 bytes
-pub headerLen-some : (n : ℕ) → 3 ≤ headerLen n
+headerLen-some : (n : ℕ) → 3 ≤ headerLen n
 unfolding headerLen
 headerLen-some n = omega (arith, uvarintLen-pos n)
 

@@ -80,7 +80,9 @@ record BestAmong (es : SizeEstimates) (b : Encoding) (l : List Encoding) (found 
   not-after : (e : Encoding) → Among e l → availableIn es e ≡ true → order es found ≤ order es e
 
 -- e beats b, so the best of e and the rest is the best of b, e and the rest
-best-taken : (es : SizeEstimates) (b e : Encoding) (l : List Encoding) (found : Encoding) → beats es e b ≡ true → BestAmong es e l found → BestAmong es b (e ∷ l) found
+best-taken :
+    (es : SizeEstimates) (b e : Encoding) (l : List Encoding) (found : Encoding) → beats es e b ≡ true
+    → BestAmong es e l found → BestAmong es b (e ∷ l) found
 best-taken es b e l found t h =
     let less : (availableIn es e ≡ true) × (cost es e < cost es b) = beats-true es e b t in
     record {
@@ -93,7 +95,9 @@ best-taken es b e l found t h =
     }
 
 -- e does not beat b, which has no later id, so the best of b and the rest is the best of b, e and the rest
-best-passed : (es : SizeEstimates) (b e : Encoding) (l : List Encoding) (found : Encoding) → beats es e b ≡ false → idOf b ≤ idOf e → BestAmong es b l found → BestAmong es b (e ∷ l) found
+best-passed :
+    (es : SizeEstimates) (b e : Encoding) (l : List Encoding) (found : Encoding) → beats es e b ≡ false → idOf b ≤ idOf e
+    → BestAmong es b l found → BestAmong es b (e ∷ l) found
 best-passed es b e l found t earlier h =
     record {
       available-too = h .available-too;

@@ -42,7 +42,7 @@ length-stored front buffer h = simp (length-append, length-drop) (omega arith)
 -- ---- planning
 
 -- "scratch of min(count, 16,384)? 22": yes, with so many places
-pub scratchCheck-ok : (column : List ℤ) (room : ℕ) → scratchNeeded column ≤ room → scratchCheck column room ≡ ok tt
+scratchCheck-ok : (column : List ℤ) (room : ℕ) → scratchNeeded column ≤ room → scratchCheck column room ≡ ok tt
 unfolding scratchCheck
 scratchCheck-ok column room enough = rw (le-leb (scratchNeeded column) room enough)
 
@@ -51,9 +51,10 @@ pub analysisChecks-ok : (column : List ℤ) (room : ℕ) → length column ≤ m
 unfolding analysisChecks
 analysisChecks-ok column room size enough = rw (le-leb (length column) maxChunkElements size) (scratchCheck-ok column room enough)
 
-module _ (level : ℕ) (column : List ℤ) (room : ℕ) (level-most : level ≤ 9) (size : length column ≤ maxChunkElements) (enough : scratchNeeded column ≤ room) where
+module _ (level : ℕ) (column : List ℤ) (room : ℕ)
+    (level-most : level ≤ 9) (size : length column ≤ maxChunkElements) (enough : scratchNeeded column ≤ room) where
   -- "Planning: level at most 9? 24; then 21, 22": all yes
-  pub planChecks-ok : planChecks level column room ≡ ok tt
+  planChecks-ok : planChecks level column room ≡ ok tt
   unfolding planChecks
   planChecks-ok = rw (le-leb level 9 level-most) (analysisChecks-ok column room size enough)
 
@@ -85,7 +86,7 @@ forDictionary-ok asked DeltaBinaryPacked h = refl
 
 module _ (e : Encoding) (column : List ℤ) (room : ℕ) (size : length column ≤ maxChunkElements) (enough : scratchNeeded column ≤ room) where
   -- "encoding 1 to 7? 2, at 0. At most 2^24 values? 21. For Dictionary: scratch of min(count, 16,384)? 22": all yes
-  pub writeChecks-ok : writeChecks (idOf e) column room ≡ ok e
+  writeChecks-ok : writeChecks (idOf e) column room ≡ ok e
   unfolding writeChecks
   writeChecks-ok =
       rw (
@@ -96,7 +97,7 @@ module _ (e : Encoding) (column : List ℤ) (room : ℕ) (size : length column �
       )
 
   -- "at most 16,384 distinct? 23. Output long enough? 20": yes, so the chunk is found
-  pub writeOutcome-ok :
+  writeOutcome-ok :
       (space : ℕ) → (e ≡ Dictionary → tooManyDistinct column ≡ false) → length (chunkOf e column) ≤ space
       → writeOutcome (idOf e) column room space ≡ ok (chunkOf e column)
   unfolding writeOutcome

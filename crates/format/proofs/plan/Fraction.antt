@@ -16,7 +16,7 @@ use lib.Ieee.Exact.{HasValue, round-exact}
 use lib.Ieee.Order.{round-mono}
 use lib.Ieee.Scale.{grid}
 use lib.Ieee.Back.{round-whole}
-use lib.Ieee.Positive.{positive-of-value, mul-at, values-of-le, first-pos}
+use lib.Ieee.Positive.{positive, positive-of-value, mul-at, values-of-le, first-pos}
 use Rattle.format.specs.Plan.{asFloat, minimumGain, threshold, meetsGain}
 use Rattle.format.proofs.plan.Rounding.{round-value, grid-near, same-test, lt-of-values}
 
@@ -113,9 +113,9 @@ share-of g M p q v z a b c d e f = record {
 module _ {g M p q : ℕ} (S : Share g M p q) (n m : ℕ) (N : n ≤ 134217734) (L : m ≤ 134217734) where
   -- the product is n * M / 2 ^ 53, rounded once,
   product-rounded : 0 < n → mul binary64 (asFloat n) (share g) ≡ round binary64 false (n * M) (2 ^ 53)
-  product-rounded positive =
+  product-rounded some =
       mul-at binary64 (asFloat n) (share g) n 1 M (2 ^ 53)
-      (positive-of-value (asFloat n) n 1 (length-value n N) positive) (positive-of-value (share g) M (2 ^ 53) (S .value) (S .positive))
+      (positive-of-value (asFloat n) n 1 (length-value n N) some) (positive-of-value (share g) M (2 ^ 53) (S .value) (S .positive))
       (zero-lt-suc 0) (pow-pos 53) (length-value n N) (S .value)
 
   -- below 2 ^ 53,
@@ -148,24 +148,31 @@ module _ {g M p q : ℕ} (S : Share g M p q) (n m : ℕ) (N : n ≤ 134217734) (
       elim (eq-zero-or-pos G) [
         | inl zero ↦ subst (λ (x : ℕ). x < m * 2 ^ low binary64) (sym zero) (mul-pos m-positive (pow-pos (low binary64)))
         | inr G-positive ↦
+            let product-positive : T (positive product) = positive-of-value product G (2 ^ low binary64) product-value G-positive in
+            let part-positive : T (positive part) = positive-of-value part s 256 s-value (omega arith) in
             part-below s m (2 ^ low binary64) G one-less
-            (values-of-le product part G (2 ^ low binary64) s 256 (positive-of-value product G (2 ^ low binary64) product-value G-positive) (positive-of-value part s 256 s-value (omega arith)) product-value s-value rounded)
-            (pow-pos (low binary64))
+            (values-of-le product part G (2 ^ low binary64) s 256 product-positive part-positive product-value s-value rounded) (pow-pos (low binary64))
       ]
 
   -- so the f64 test is that of the fraction: for a plain length that is not 0,
   test-positive : 0 < n → lt (mul binary64 (asFloat n) (share g)) (asFloat m) ≡ ltb (p * n) (q * m)
-  test-positive positive =
+  test-positive some =
       let G : ℕ = grid binary64 (n * M) (2 ^ 53) in
-      ap (λ (x : Float). lt x (asFloat m)) (product-rounded positive)
-      ∙ lt-of-values (round binary64 false (n * M) (2 ^ 53)) (asFloat m) G (2 ^ low binary64) m 1 (pow-pos (low binary64)) (zero-lt-suc 0) product-value (length-value m L)
-      ∙ same-test (G * 1) (m * 2 ^ low binary64) (p * n) (q * m) fails (λ (h : q * m ≤ p * n). le-trans (not-less h) (le-of-eq (sym (mul-one G))))
+      let values : lt (round binary64 false (n * M) (2 ^ 53)) (asFloat m) ≡ ltb (G * 1) (m * 2 ^ low binary64) =
+      lt-of-values (round binary64 false (n * M) (2 ^ 53)) (asFloat m) G (2 ^ low binary64) m 1 (pow-pos (low binary64)) (zero-lt-suc 0)
+      product-value (length-value m L) in
+      ap (λ (x : Float). lt x (asFloat m)) (product-rounded some)
+      ∙ values
+      ∙ same-test (G * 1) (m * 2 ^ low binary64) (p * n) (q * m) to (λ (h : q * m ≤ p * n). le-trans (not-less h) (le-of-eq (sym (mul-one G))))
     where
       at-least : (x y : ℕ) → (x < y → ⊥) → y ≤ x
       at-least x y h = omega arith
 
-      fails : m * 2 ^ low binary64 ≤ grid binary64 (n * M) (2 ^ 53) * 1 → q * m ≤ p * n
-      fails h = at-least (p * n) (q * m) (λ (l : p * n < q * m). lt-irrefl (grid binary64 (n * M) (2 ^ 53)) (lt-of-lt-of-le (less l) (le-trans h (le-of-eq (mul-one (grid binary64 (n * M) (2 ^ 53)))))))
+      to : m * 2 ^ low binary64 ≤ grid binary64 (n * M) (2 ^ 53) * 1 → q * m ≤ p * n
+      to h =
+          let G : ℕ = grid binary64 (n * M) (2 ^ 53) in
+          let h′ : m * 2 ^ low binary64 ≤ G = le-trans h (le-of-eq (mul-one G)) in
+          at-least (p * n) (q * m) (λ (l : p * n < q * m). lt-irrefl G (lt-of-lt-of-le (less l) h′))
 
   -- for 0, where the product is 0,
   test-zero : n ≡ 0 → lt (mul binary64 (asFloat n) (share g)) (asFloat m) ≡ ltb (p * n) (q * m)
@@ -185,7 +192,7 @@ module _ {g M p q : ℕ} (S : Share g M p q) (n m : ℕ) (N : n ≤ 134217734) (
 
   -- and so for any
   share-test : lt (mul binary64 (asFloat n) (share g)) (asFloat m) ≡ ltb (p * n) (q * m)
-  share-test = elim (eq-zero-or-pos n) [ inl zero ↦ test-zero zero | inr positive ↦ test-positive positive ]
+  share-test = elim (eq-zero-or-pos n) [ inl none ↦ test-zero none | inr some ↦ test-positive some ]
 
 -- ---- the three shares: all by computing
 
@@ -216,18 +223,22 @@ pub gain-fraction : (level plain bytes : ℕ) → plain ≤ 134217734 → bytes 
 unfolding meetsGain threshold minimumGain
 gain-fraction level plain bytes P B = go (leb level 3) (leb level 6)
   where
+    gain : Bool → Bool → Float
+    gain c d = cond c (round binary64 false 20 100) (cond d (round binary64 false 5 100) (round binary64 false 1 100))
+
     go : (c d : Bool)
-        → not (lt (mul binary64 (asFloat plain) (sub binary64 (asFloat 1) (cond c (round binary64 false 20 100) (cond d (round binary64 false 5 100) (round binary64 false 1 100))))) (asFloat bytes))
+        → not (lt (mul binary64 (asFloat plain) (sub binary64 (asFloat 1) (gain c d))) (asFloat bytes))
         ≡ not (cond c (ltb (4 * plain) (5 * bytes)) (cond d (ltb (19 * plain) (20 * bytes)) (ltb (99 * plain) (100 * bytes))))
     go true d = ap not (share-test share-20 plain bytes P B)
     go false true = ap not (share-test share-5 plain bytes P B)
     go false false = ap not (share-test share-1 plain bytes P B)
 
--- the sample sheet, by running the f64 arithmetic itself: "Plain 1,060 at level 6: a best of 1,007 is kept, 1,008 is not."
+-- the sample sheet, by running the f64 arithmetic itself: "Plain 1,060 at level 6: a best of 1,007 is kept,
 meetsGain-1007 : meetsGain 6 1060 1007 ≡ true
 unfolding meetsGain threshold minimumGain lt sub add neg sum mul ofInt round size span climb units odd trailingZeros
 meetsGain-1007 = refl
 
+-- 1,008 is not."
 meetsGain-1008 : meetsGain 6 1060 1008 ≡ false
 unfolding meetsGain threshold minimumGain lt sub add neg sum mul ofInt round size span climb units odd trailingZeros
 meetsGain-1008 = refl

@@ -24,12 +24,13 @@ data NotNegative : Float → Type 0 where
   infinite : NotNegative (inf false)
   finite : {m : ℕ} {e : ℤ} → NotNegative (fin false m e)
 
--- rounding without a sign gives such a value
+-- rounding without a sign gives such a value: the digits that it keeps,
 odd-not-negative : (d q k l : ℕ) → NotNegative (odd d false q k l)
 unfolding odd
 odd-not-negative d zero k l = finite
 odd-not-negative d (suc q) k l = finite
 
+-- so many units as a value, or the infinity where they are too many
 units-not-negative : (f : Format) (q k : ℕ) → NotNegative (units f false q k)
 unfolding units
 units-not-negative f q k = go (ltb (q * 2 ^ k) (2 ^ (low f + suc (emax f))))
@@ -44,7 +45,7 @@ unfolding ofInt
 asFloat-not-negative n = rw round-is (units-not-negative binary64 (kept 53 (n * 2 ^ low binary64) 1) (drop 53 (n * 2 ^ low binary64) 1))
 
 -- and a greater whole number is no less
-pub asFloat-mono : (m n : ℕ) → m ≤ n → T (le (asFloat m) (asFloat n))
+asFloat-mono : (m n : ℕ) → m ≤ n → T (le (asFloat m) (asFloat n))
 unfolding ofInt
 asFloat-mono m n h = round-mono binary64 m 1 n 1 (lit< tt) (lit< tt) (omega arith)
 
@@ -173,6 +174,7 @@ pub gain-at-level :
     → (meetsGain level plain bytes ≡ false) ↔ (p * plain < q * bytes)
 gain-at-level {level} {p} {q} fraction plain bytes P B =
     let same : meetsGain level plain bytes ≡ not (ltb (p * plain) (q * bytes)) =
-    gain-fraction level plain bytes P B ∙ ap not (exceeds-at-level fraction plain bytes) in
-    (λ (h : meetsGain level plain bytes ≡ false). ltb-true (p * plain) (q * bytes) (not-false (ltb (p * plain) (q * bytes)) (sym same ∙ h)),
-    λ (h : p * plain < q * bytes). same ∙ ap not (lt-ltb (p * plain) (q * bytes) h))
+    gain-fraction level plain bytes P B ∙ ap not (exceeds-at-level fraction plain bytes) in (
+      λ (h : meetsGain level plain bytes ≡ false). ltb-true (p * plain) (q * bytes) (not-false (ltb (p * plain) (q * bytes)) (sym same ∙ h)),
+      λ (h : p * plain < q * bytes). same ∙ ap not (lt-ltb (p * plain) (q * bytes) h),
+    )

@@ -44,8 +44,8 @@ module _ (level : ℕ) (column : List ℤ) (some : 0 < length column) (size : le
   pub plain-planned : {p q : ℕ} → LevelFraction level p q → (planOf level column .encoding ≡ Plain) ↔ (p * plainLength column < q * shortestLength column)
   plain-planned fraction =
       let plain-most : plainLength column ≤ 134217734 = plain-limit column size in
-      Iff·trans (plain-planned-test (level-positive fraction))
-      (gain-at-level fraction (plainLength column) (shortestLength column) plain-most (le-trans (shortestLength-least column Plain (plain-available column)) plain-most))
+      let shortest-most : shortestLength column ≤ 134217734 = le-trans (shortestLength-least column Plain (plain-available column)) plain-most in
+      Iff·trans (plain-planned-test (level-positive fraction)) (gain-at-level fraction (plainLength column) (shortestLength column) plain-most shortest-most)
 
   -- "5 times the length exceeds 4 times plain at levels 1 to 3"
   pub plain-planned-1-3 : 1 ≤ level → level ≤ 3 → (planOf level column .encoding ≡ Plain) ↔ (4 * plainLength column < 5 * shortestLength column)

@@ -39,7 +39,7 @@ pub data ReasonCase (level count : ℕ) (es : SizeEstimates) (b : Encoding) : Pl
       0 < count → 0 < level → b ≢ Plain → meetsGain level (lengthIn es Plain) (lengthIn es b) ≡ false → ReasonCase level count es b GainBelowThreshold
 
 -- every reason is one of these cases: by the four tests in their order
-pub reasonOf-case : (level count : ℕ) (es : SizeEstimates) (b : Encoding) → ReasonCase level count es b (reasonOf level count es b)
+reasonOf-case : (level count : ℕ) (es : SizeEstimates) (b : Encoding) → ReasonCase level count es b (reasonOf level count es b)
 unfolding reasonOf
 reasonOf-case level count es b = go (eqb count 0) (eqb level 0) (eqb (idOf b) 1) (meetsGain level (lengthIn es Plain) (lengthIn es b)) refl refl refl refl
   where
@@ -99,11 +99,14 @@ pub bestOf-best : (column : List ℤ) → Best (estimatesOf column) (bestOf colu
 bestOf-best column = best-is (estimatesOf column) (plain-available column)
 
 -- no available length is less
-pub shortestLength-least : (column : List ℤ) (e : Encoding) → availableIn (estimatesOf column) e ≡ true → shortestLength column ≤ lengthIn (estimatesOf column) e
+pub shortestLength-least :
+    (column : List ℤ) (e : Encoding) → availableIn (estimatesOf column) e ≡ true → shortestLength column ≤ lengthIn (estimatesOf column) e
 shortestLength-least column e there = best-least (estimatesOf column) (bestOf column) (bestOf-best column) e there
 
 -- for the empty column no available length is less than Plain's, which is the header's
-plainLength-least : (column : List ℤ) → length column ≡ 0 → (e : Encoding) → availableIn (estimatesOf column) e ≡ true → plainLength column ≤ lengthIn (estimatesOf column) e
+plainLength-least :
+    (column : List ℤ) → length column ≡ 0 → (e : Encoding) → availableIn (estimatesOf column) e ≡ true
+    → plainLength column ≤ lengthIn (estimatesOf column) e
 plainLength-least column none e there = rw plain-estimate (omega (arith, estimate-header column e there))
 
 -- ---- what is planned

@@ -30,10 +30,11 @@ use Rattle.format.proofs.lengths.Chunks.{chunk-at-most}
 use Rattle.format.proofs.plan.Plan.{plan-estimates, plan-bytes, plan-plain, plan-available, plan-not-above, plan-smallest, plan-no-gain}
 use Rattle.format.proofs.plan.Checks.{planAnswer-accepted, writeAnswer-accepted, chunkStored-chunk}
 
--- the encoding planned, and the estimate of that plan
+-- the encoding planned
 abbrev planned : ℕ → List ℤ → Encoding
 planned level column = planOf level column .encoding
 
+-- "The estimate there is the length carried in the plan"
 abbrev estimate : ℕ → List ℤ → ℕ
 estimate level column = planOf level column .«estimated_bytes»
 
@@ -90,7 +91,8 @@ module _ (column : List ℤ) (keys : Keys column) (size : length column ≤ maxC
   stored-chunk : chunkStored (planned level column) column scratch output ≡ chunkOf (planned level column) column
   stored-chunk = chunkStored-chunk (planned level column) column scratch output size (plan-available level column) scratch-room planned-fits
 
-  module _ (buffer : List ℤ) (buffer-room : length column ≤ length buffer) (strict : Bool) (naming : Naming) (names : NamedFor (planned level column) naming) where
+  module _ (buffer : List ℤ) (buffer-room : length column ≤ length buffer)
+      (strict : Bool) (naming : Naming) (names : NamedFor (planned level column) naming) where
     -- reading those bytes is accepted, with the column's count,
     read-accepted : readAnswer strict naming (chunkStored (planned level column) column scratch output) (length buffer) ≡ Accepted (length column)
     read-accepted = rw stored-chunk (readAnswer-back (planned level column) strict column keys size names (length buffer) buffer-room)
@@ -101,9 +103,9 @@ module _ (column : List ℤ) (keys : Keys column) (size : length column ≤ maxC
         rw (stored-chunk, readColumn-back (planned level column) strict column keys size names buffer buffer-room)
         (take-append-seam column (drop (length column) buffer))
 
--- ---- the demand: "a single claim about planning, writing and reading in a row". The statement speaks of the estimates that the plan holds: they are the
--- column's (`plan-estimates`)
+-- ---- the demand
 
+-- "a single claim about planning, writing and reading in a row". The estimates that the plan holds are the column's (`plan-estimates`)
 pub third : ThirdDemand
 third = record {
   holds = λ column keys size level level-most lent lent-room scratch scratch-room output output-room buffer buffer-room.
@@ -115,7 +117,7 @@ third = record {
         at-most = planned-at-most column keys level;
         exactly = planned-exactly column keys level;
         not-above-plain = planned-not-above-plain column keys level;
-        others = rw plan-estimates (λ e there room space room-enough space-enough. writeAnswer-accepted e column room space size there room-enough space-enough);
+        others = rw plan-estimates (λ e there room space enough fits. writeAnswer-accepted e column room space size there enough fits);
         shortest = rw plan-estimates (chunk-not-below column keys level);
         shortest-delta = rw plan-estimates (λ h gain there. plan-smallest level column h gain DeltaBinaryPacked there);
         no-gain = rw plan-estimates (chunk-no-gain column keys level);
