@@ -1,11 +1,10 @@
 pub mod Encodings
 pub mod Header
-pub mod Occurs
 pub mod Packed
-pub mod Uvarints
 pub mod Plain
 pub mod Varint
 pub mod BitPacked
+pub mod Frame
 pub mod RunLength
 pub mod Dictionary
 pub mod Codes

@@ -18,9 +18,9 @@ use Rattle.format.specs.Estimates.{estimatesOf, lengthIn}
 use Rattle.format.specs.declared.Encoding.the-variants.{DeltaBinaryPacked}
 use Rattle.format.proofs.numbers.Widths.{width-mono}
 use Rattle.format.proofs.numbers.Keys.{gap-lt}
-use Rattle.format.proofs.numbers.All.{All, all-take, all-drop, deltas-keys}
+use Rattle.format.proofs.numbers.All.{All, all-take, all-drop}
+use Rattle.format.proofs.numbers.Columns.{deltas-keys, length-deltas}
 use Rattle.format.proofs.numbers.Extremes.{least-all, greatest-all, span-part, varintLen-part}
-use Rattle.format.proofs.lengths.Parts.{length-deltas}
 use Rattle.format.proofs.numbers.Packing.{packedLen-mono, packedLen-split}
 use Rattle.format.proofs.lengths.Estimates.{delta-estimate}
 use Rattle.format.proofs.lengths.DeltaLength.{blockLen, blocksLen, deltaBlockSize-len, delta-length}

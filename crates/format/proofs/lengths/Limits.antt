@@ -24,7 +24,7 @@ use Rattle.format.specs.declared.Encoding.{Encoding}
 use Rattle.format.specs.declared.Encoding.the-variants.{Plain, Varint, BitPacked, FrameOfReference, RunLength, Dictionary, DeltaBinaryPacked}
 use Rattle.format.proofs.numbers.Widths.{width-le, width-least, uvarintLen-pos, uvarintLen-le, uvarintLen-least}
 use Rattle.format.proofs.numbers.Packing.{packedLen-most}
-use Rattle.format.proofs.numbers.Distinct.{distinct-most}
+use Rattle.format.proofs.numbers.Distinct.{length-distinct}
 use Rattle.format.proofs.lengths.Estimates.{plain-estimate, varint-estimate, bitPacked-estimate, frame-estimate, runLength-estimate, dictionary-estimate, delta-estimate, dictionary-none, delta-none, dictionary-few, delta-two}
 use Rattle.format.proofs.lengths.DeltaLength.{deltaBlockSize-len}
 
@@ -147,8 +147,8 @@ module _ (column : List ℤ) (size : length column ≤ maxChunkElements) where
           (omega (
             arith,
             headerLen-most (length column) size,
-            countLen-most d (le-trans (distinct-most column) size),
-            distinct-most column,
+            countLen-most d (le-trans (length-distinct column) size),
+            length-distinct column,
             entriesLen-most (distinct column),
             packedLen-most (length column) (codeWidth d) (codeWidth-le d),
           ))

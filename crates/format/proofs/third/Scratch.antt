@@ -15,7 +15,7 @@ use Rattle.format.specs.Distinct.{insert, cappedDistinctFrom, cappedDist
 use Rattle.format.specs.Plan.{planOf, planScratch}
 use Rattle.format.specs.Keys.{Keys}
 use Rattle.format.specs.ThirdDemand.{RoundTrip}
-use Rattle.format.proofs.numbers.Distinct.{insert-one}
+use Rattle.format.proofs.numbers.Distinct.{length-insert}
 use Rattle.format.proofs.plan.Checks.{planning-goes}
 use Rattle.format.proofs.third.ThirdDemand.{third}
 
@@ -35,7 +35,7 @@ cappedDistinctFrom-most held (v ∷ vs) h =
         → Few (length held + length vs) (cappedDistinctFrom held vs)
         → Few (length held + suc (length vs)) (cappedDistinctFrom (cond t (insert v held) held) vs)
     go true small more same =
-        let one : length (insert v held) ≤ suc (length held) = insert-one v held in
+        let one : length (insert v held) ≤ suc (length held) = length-insert v held in
         let room : length (insert v held) ≤ maxDictionaryCardinality = omega (arith, small refl) in
         (omega (arith, more room .0), more room .1)
     go false small more same = (omega (arith, same .0), same .1)
