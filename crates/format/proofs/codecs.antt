@@ -1,4 +1,5 @@
 pub mod Encodings
+pub mod Outcome
 pub mod Header
 pub mod Packed
 pub mod Plain
@@ -11,3 +12,4 @@ pub mod Codes
 pub mod Delta
 pub mod Body
 pub mod Chunk
+pub mod Counts

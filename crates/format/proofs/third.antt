@@ -2,3 +2,4 @@ pub mod RoundTrip
 pub mod ThirdDemand
 pub mod Fractions
 pub mod Scratch
+pub mod Buffers

@@ -7,7 +7,7 @@ use native.Mathlib.Nat.{add-assoc, add-zero, min-comm}
 use native.Mathlib.Omega.{arith}
 use mathlib.Core.List.{List, _∷_, _++_, map}
 use lib.IntN.{ℤ, pos}
-use lib.Dec.{lit<}
+use lib.Dec.{lit≤, lit<}
 use lib.ListN.{length, getD, take, drop, length-append, length-map, length-take, length-drop}
 use lib.Seq.{take-add, take-all}
 use Rattle.format.specs.Outcome.{ok}
@@ -24,6 +24,7 @@ use Rattle.format.proofs.numbers.All.{All, all-none, all-more, all-take
 use Rattle.format.proofs.numbers.Columns.{deltas-keys, below-gaps, map-wrappingAdd, prefixSums-deltas, length-deltasFrom}
 use Rattle.format.proofs.numbers.Extremes.{least-key}
 use Rattle.format.proofs.numbers.Occurs.{Occurs, occurs-first, occurs-next}
+use Rattle.format.proofs.codecs.Counts.{blockCount-enough}
 use Rattle.format.proofs.codecs.Packed.{body-width, body-byte, body-end, body-back}
 use Rattle.format.proofs.numbers.Packing.{length-packed}
 use Rattle.format.proofs.numbers.Uvarints.{uvarintWritten, readUvarint-back, uvarintAt-back}
@@ -103,11 +104,6 @@ abbrev fromLow : List ℕ → ℕ → ℕ → UvarintRead → ℕ → ℕ → Li
 fromLow s k left low w n =
     map (λ m. wrappingAdd (unzigzag (low .value)) (pos m)) (packedValues s (low .next + 1) w n)
     ++ blockDeltas s 128 (low .next + 1 + packedLen n w) k (left - n)
-
--- the blocks are enough for the deltas
-blocks-enough : (n : ℕ) → n ≤ blockCount 128 n * 128
-unfolding blockCount
-blocks-enough n = omega arith
 
 -- k blocks that occur at a place: their end,
 pub blocks-validate :
@@ -204,5 +200,5 @@ delta-back {s} {at} (all-more {x} {xs} k r) h =
     (uvarintAt-back 128 (lit< tt) (delta-size x xs h))
     ∙ rw (unzigzag-zigzag x, ← length-deltasFrom x xs)
     (ap {B = List ℤ} (λ l. x ∷ l)
-    (ap (prefixSums x) (blocks-back (blockCount 128 (length ds)) (deltas-keys (x ∷ xs)) (delta-blocks x xs h) ∙ take-all _ ds (blocks-enough (length ds)))
+    (ap (prefixSums x) (blocks-back (blockCount 128 (length ds)) (deltas-keys (x ∷ xs)) (delta-blocks x xs h) ∙ take-all _ ds (blockCount-enough 128 (length ds) (lit≤ tt)))
     ∙ prefixSums-deltas x r))
