@@ -3,3 +3,4 @@ pub mod codecs
 pub mod lengths
 pub mod plan
 pub mod third
+pub mod samples

@@ -1,14 +1,15 @@
 pub mod Encodings
+pub mod Outcome
 pub mod Header
-pub mod Occurs
 pub mod Packed
-pub mod Uvarints
 pub mod Plain
 pub mod Varint
 pub mod BitPacked
+pub mod Frame
 pub mod RunLength
 pub mod Dictionary
 pub mod Codes
 pub mod Delta
 pub mod Body
 pub mod Chunk
+pub mod Counts

@@ -1,11 +1,12 @@
+pub mod All
 pub mod Digits
 pub mod Packing
-pub mod Distinct
+pub mod Occurs
 pub mod Widths
 pub mod Uvarints
 pub mod UvarintRows
 pub mod Keys
 pub mod Order
-pub mod All
+pub mod Columns
 pub mod Extremes
-pub mod Inverses
+pub mod Distinct

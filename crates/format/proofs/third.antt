@@ -1,2 +1,3 @@
 pub mod ThirdDemand
 pub mod Scratch
+pub mod Buffers

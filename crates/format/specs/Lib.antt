@@ -24,4 +24,3 @@ pub mod Statistics
 pub mod Estimates
 pub mod Plan
 pub mod ThirdDemand
-pub mod Samples

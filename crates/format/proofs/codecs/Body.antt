@@ -1,26 +1,28 @@
--- Every encoding: a body that was written is read back.
+-- Every encoding: a body that was written is read back, by the law of its encoding.
 use mathlib.Core.Path.{_≡_}
 use mathlib.Core.Option.{Option}
-use Prim.Native.Nat.{ℕ, _+_, _^_, _≤_}
-use mathlib.Core.List.{List, _++_}
+use Prim.Native.Nat.{ℕ, _+_, _≤_}
+use mathlib.Core.List.{List}
 use lib.IntN.{ℤ}
 use lib.ListN.{length}
 use Rattle.format.specs.Outcome.{ok}
+use Rattle.format.specs.Encodings.{maxChunkElements}
 use Rattle.format.specs.Chunk.{bodyOf, validateBody, bodyValues}
-use Rattle.format.specs.Keys.{Keys, Key}
+use Rattle.format.specs.Keys.{Key}
 use Rattle.format.specs.declared.Encoding.{Encoding}
 use Rattle.format.specs.declared.Encoding.the-variants.{Plain, Varint, BitPacked, FrameOfReference, RunLength, Dictionary, DeltaBinaryPacked}
-use Rattle.format.proofs.numbers.All.{All, keys-all}
-use Rattle.format.proofs.codecs.Occurs.{Occurs, occurs-middle}
+use Rattle.format.proofs.numbers.All.{All}
+use Rattle.format.proofs.numbers.Occurs.{Occurs}
 use Rattle.format.proofs.codecs.Plain.{plain-validate, plain-back}
 use Rattle.format.proofs.codecs.Varint.{varint-validate, varint-back}
-use Rattle.format.proofs.codecs.BitPacked.{bitPacked-validate, bitPacked-back, frame-validate, frame-back}
+use Rattle.format.proofs.codecs.BitPacked.{bitPacked-validate, bitPacked-back}
+use Rattle.format.proofs.codecs.Frame.{frame-validate, frame-back}
 use Rattle.format.proofs.codecs.RunLength.{runLength-validate, runLength-back}
 use Rattle.format.proofs.codecs.Dictionary.{dictionary-validate, dictionary-back}
 use Rattle.format.proofs.codecs.Delta.{delta-validate, delta-back}
 
-module _ {s : List ℕ} {at : ℕ} {column : List ℤ} (ks : All Key column) (few : length column ≤ 2 ^ 24) where
-  -- a body that stands at a place: its end,
+module _ {s : List ℕ} {at : ℕ} {column : List ℤ} (ks : All Key column) (few : length column ≤ maxChunkElements) where
+  -- a body that occurs at a place: its end,
   pub body-validate :
       (e : Encoding) → Occurs s at (bodyOf e column) → (padded : Option ℕ)
       → validateBody e s at (length column) padded ≡ ok (record { end = at + length (bodyOf e column); padded = padded })
@@ -43,15 +45,3 @@ module _ {s : List ℕ} {at : ℕ} {column : List ℤ} (ks : All Key column) (fe
   body-values RunLength h = runLength-back ks few h
   body-values Dictionary h = dictionary-back ks few h
   body-values DeltaBinaryPacked h = delta-back ks h
-
--- THE SAME between any bytes before and after
-module _ (e : Encoding) (pre : List ℕ) (column : List ℤ) (rest : List ℕ) (ks : Keys column) (few : length column ≤ 2 ^ 24) where
-  -- its end
-  pub validateBody-back :
-      (padded : Option ℕ)
-      → validateBody e (pre ++ (bodyOf e column ++ rest)) (length pre) (length column) padded ≡ ok (record { end = length pre + length (bodyOf e column); padded = padded })
-  validateBody-back padded = body-validate (keys-all column ks) few e (occurs-middle pre (bodyOf e column) rest) padded
-
-  -- its values
-  pub bodyValues-back : bodyValues e (pre ++ (bodyOf e column ++ rest)) (length pre) (length column) ≡ column
-  bodyValues-back = body-values (keys-all column ks) few e (occurs-middle pre (bodyOf e column) rest)

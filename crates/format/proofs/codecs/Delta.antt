@@ -1,4 +1,5 @@
--- DeltaBinaryPacked: what was written is read back.
+-- DeltaBinaryPacked: what was written is read back. One block is a varint and packed offsets; blocks in a row are taken by induction on their number; and the
+-- deltas, summed again, are the column.
 use mathlib.Core.Path.{_≡_, refl, sym, ap, ap₂, _∙_}
 use mathlib.Core.Option.{Option}
 use Prim.Native.Nat.{ℕ, zero, suc, _+_, _-_, _*_, _≤_, min}
@@ -6,7 +7,7 @@ use native.Mathlib.Nat.{add-assoc, add-zero, min-comm}
 use native.Mathlib.Omega.{arith}
 use mathlib.Core.List.{List, _∷_, _++_, map}
 use lib.IntN.{ℤ, pos}
-use lib.Dec.{lit<}
+use lib.Dec.{lit≤, lit<}
 use lib.ListN.{length, getD, take, drop, length-append, length-map, length-take, length-drop}
 use lib.Seq.{take-add, take-all}
 use Rattle.format.specs.Outcome.{ok}
@@ -19,15 +20,16 @@ use Rattle.format.specs.BitPacked.{packedBody}
 use Rattle.format.specs.Delta.{blockCount, blockBytes, blocksBytes, deltaBody, validateBlocks, validateDelta, blockDeltas, prefixSums, deltaValues}
 use Rattle.format.proofs.numbers.UvarintRows.{firstPadded-unpadded}
 use Rattle.format.proofs.numbers.Keys.{unzigzag-zigzag, zigzag-lt}
-use Rattle.format.proofs.numbers.All.{All, all-none, all-more, all-take, all-drop, deltas-keys}
-use Rattle.format.proofs.numbers.Extremes.{least-key, below-gaps}
-use Rattle.format.proofs.numbers.Inverses.{map-wrappingAdd, prefixSums-deltas, length-deltasFrom}
-use Rattle.format.proofs.codecs.Occurs.{Occurs, occurs-first, occurs-next}
+use Rattle.format.proofs.numbers.All.{All, all-none, all-more, all-take, all-drop}
+use Rattle.format.proofs.numbers.Columns.{deltas-keys, below-gaps, map-wrappingAdd, prefixSums-deltas, length-deltasFrom}
+use Rattle.format.proofs.numbers.Extremes.{least-key}
+use Rattle.format.proofs.numbers.Occurs.{Occurs, occurs-first, occurs-next}
+use Rattle.format.proofs.codecs.Counts.{blockCount-enough}
 use Rattle.format.proofs.codecs.Packed.{body-width, body-byte, body-end, body-back}
 use Rattle.format.proofs.numbers.Packing.{length-packed}
-use Rattle.format.proofs.codecs.Uvarints.{readBack, varint-read, varint-at}
+use Rattle.format.proofs.numbers.Uvarints.{uvarintWritten, readUvarint-back, uvarintAt-back}
 
--- ---- one block that stands at a place
+-- ---- one block that occurs at a place
 
 module _ {s : List ℕ} {at : ℕ} {ds : List ℤ} (ks : All Key ds) (h : Occurs s at (blockBytes ds)) where
   -- its parts, and its length
@@ -44,12 +46,12 @@ module _ {s : List ℕ} {at : ℕ} {ds : List ℤ} (ks : All Key ds) (h : Occurs
   block-length = rw (length-append, add-assoc)
 
   -- its least delta,
-  pub block-read : readUvarint s at ≡ ok (readBack at (zigzag (least ds)))
-  block-read = varint-read (zigzag (least ds)) (zigzag-lt (least ds) (least-key ks)) block-low
+  pub block-read : readUvarint s at ≡ ok (uvarintWritten at (zigzag (least ds)))
+  block-read = readUvarint-back (zigzag (least ds)) (zigzag-lt (least ds) (least-key ks)) block-low
 
   -- (where it was read before)
-  pub block-at : uvarintAt s at ≡ readBack at (zigzag (least ds))
-  block-at = varint-at (zigzag (least ds)) (zigzag-lt (least ds) (least-key ks)) block-low
+  pub block-at : uvarintAt s at ≡ uvarintWritten at (zigzag (least ds))
+  block-at = uvarintAt-back (zigzag (least ds)) (zigzag-lt (least ds) (least-key ks)) block-low
 
   -- its width,
   pub block-width : widthAt s (at + length (uvarintBytes (zigzag (least ds)))) ≡ ok (width (largest (map (gap (least ds)) ds)))
@@ -103,12 +105,7 @@ fromLow s k left low w n =
     map (λ m. wrappingAdd (unzigzag (low .value)) (pos m)) (packedValues s (low .next + 1) w n)
     ++ blockDeltas s 128 (low .next + 1 + packedLen n w) k (left - n)
 
--- the blocks are enough for the deltas
-blocks-enough : (n : ℕ) → n ≤ blockCount 128 n * 128
-unfolding blockCount
-blocks-enough n = omega arith
-
--- k blocks that stand at a place: their end,
+-- k blocks that occur at a place: their end,
 pub blocks-validate :
     {s : List ℕ} {at : ℕ} {ds : List ℤ} (k : ℕ) (padded : Option ℕ) → All Key ds → Occurs s at (blocksBytes k ds)
     → validateBlocks s 128 at k (length ds) padded ≡ ok (record { end = at + length (blocksBytes k ds); padded = padded })
@@ -136,7 +133,7 @@ blocks-back {s} {at} {ds} (suc k) ks h =
     let n : ℕ = length (take 128 ds) in
     let all : 128 + k * 128 ≡ suc k * 128 = omega arith in
     ap₂ (λ (low : UvarintRead) (m : ℕ). fromLow s k (length ds) low (getD s (low .next) 0) m) (block-at ka ha) (next-block ds)
-    ∙ ap (λ (w : ℕ). fromLow s k (length ds) (readBack at (zigzag (least (take 128 ds)))) w n) (block-byte ka ha)
+    ∙ ap (λ (w : ℕ). fromLow s k (length ds) (uvarintWritten at (zigzag (least (take 128 ds)))) w n) (block-byte ka ha)
     ∙ ap₂ (λ (x y : List ℤ). x ++ y) (block-back ka ha)
     (ap₂ (λ (p l : ℕ). blockDeltas s 128 p k l) (block-after ka ha) (left-blocks ds) ∙ blocks-back k (all-drop 128 ks) (occurs-next a b h))
     ∙ sym (take-add 128 (k * 128) ds)
@@ -144,7 +141,7 @@ blocks-back {s} {at} {ds} (suc k) ks h =
 
 -- ---- the body
 
--- the first value, the block size and the blocks stand in a row
+-- the first value, the block size and the blocks occur in a row
 module _ {s : List ℕ} {at : ℕ} (first : ℤ) (rest : List ℤ) (h : Occurs s at (deltaBody (first ∷ rest))) where
   blocks : List ℕ
   blocks = blocksBytes (blockCount 128 (length (deltasFrom first rest))) (deltasFrom first rest)
@@ -162,7 +159,7 @@ module _ {s : List ℕ} {at : ℕ} (first : ℤ) (rest : List ℤ) (h : Occurs s
   unfolding deltaBody deltas varintBytes blocks
   delta-blocks = occurs-next (uvarintBytes 128) blocks (occurs-next (uvarintBytes (zigzag first)) (uvarintBytes 128 ++ blocks) h)
 
--- DeltaBinaryPacked: the end of a body that stands at a place,
+-- DeltaBinaryPacked: the end of a body that occurs at a place,
 pub delta-validate :
     {s : List ℕ} {at : ℕ} {column : List ℤ} → All Key column → Occurs s at (deltaBody column) → (padded : Option ℕ)
     → validateDelta s at (length column) padded ≡ ok (record { end = at + length (deltaBody column); padded = padded })
@@ -175,8 +172,8 @@ delta-validate {s} {at} (all-more {x} {xs} k r) h padded =
     let c : List ℕ = blocksBytes (blockCount 128 (length ds)) ds in
     let e : at + length a + length b + length c ≡ at + length (a ++ (b ++ c)) = omega (arith, length-append a (b ++ c), length-append b c) in
     rw (
-      varint-read (zigzag x) (zigzag-lt x k) (delta-first x xs h),
-      varint-read 128 (lit< tt) (delta-size x xs h),
+      readUvarint-back (zigzag x) (zigzag-lt x k) (delta-first x xs h),
+      readUvarint-back 128 (lit< tt) (delta-size x xs h),
       firstPadded-unpadded padded at,
       firstPadded-unpadded padded (at + length a),
       ← length-deltasFrom x xs,
@@ -195,13 +192,13 @@ delta-back {s} {at} (all-more {x} {xs} k r) h =
     unzigzag (first .value)
     ∷ prefixSums (unzigzag (first .value))
     (blockDeltas s (uvarintAt s (first .next) .value) (uvarintAt s (first .next) .next) (blockCount (uvarintAt s (first .next) .value) (length xs)) (length xs)))
-    (varint-at (zigzag x) (zigzag-lt x k) (delta-first x xs h))
+    (uvarintAt-back (zigzag x) (zigzag-lt x k) (delta-first x xs h))
     ∙ ap {B = List ℤ}
     (λ (size : UvarintRead).
     unzigzag (zigzag x)
     ∷ prefixSums (unzigzag (zigzag x)) (blockDeltas s (size .value) (size .next) (blockCount (size .value) (length xs)) (length xs)))
-    (varint-at 128 (lit< tt) (delta-size x xs h))
+    (uvarintAt-back 128 (lit< tt) (delta-size x xs h))
     ∙ rw (unzigzag-zigzag x, ← length-deltasFrom x xs)
     (ap {B = List ℤ} (λ l. x ∷ l)
-    (ap (prefixSums x) (blocks-back (blockCount 128 (length ds)) (deltas-keys (x ∷ xs)) (delta-blocks x xs h) ∙ take-all _ ds (blocks-enough (length ds)))
+    (ap (prefixSums x) (blocks-back (blockCount 128 (length ds)) (deltas-keys (x ∷ xs)) (delta-blocks x xs h) ∙ take-all _ ds (blockCount-enough 128 (length ds) (lit≤ tt)))
     ∙ prefixSums-deltas x r))

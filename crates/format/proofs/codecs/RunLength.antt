@@ -1,4 +1,5 @@
--- RunLength: what was written is read back.
+-- RunLength: what was written is read back. The runs of a column, written out, are the column, so their lengths sum to its count and there are no more of them
+-- than values: questions 14, 15 and 16 pass. Each run's two varints are read where they occur.
 use mathlib.Core.Path.{_≡_, refl, sym, ap, _∙_}
 use mathlib.Core.Bool.{Bool, true, false, cond}
 use mathlib.Core.Option.{Option}
@@ -6,18 +7,20 @@ use Prim.Native.Nat.{ℕ, suc, _+_, _-_, _^_, _≤_, _<_}
 use native.Mathlib.Nat.{add-assoc, add-zero, le-refl}
 use native.Mathlib.Omega.{arith}
 use mathlib.Core.List.{List, [], _∷_, _++_, append-assoc}
-use lib.IntN.{ℤ, pos, negsuc}
+use lib.IntN.{ℤ}
 use lib.ListN.{length, replicate, length-append, length-replicate, replicate-append-replicate}
-use borrow.Author.Tests.{le-leb, eqb-true}
+use borrow.Author.Tests.{le-leb}
 use Rattle.format.specs.Outcome.{ok}
+use Rattle.format.specs.Encodings.{maxChunkElements}
 use Rattle.format.specs.Keys.{eqZ, zigzag, unzigzag, Key}
 use Rattle.format.specs.Varint.{UvarintRead, uvarintBytes, varintBytes, uvarintAt}
 use Rattle.format.specs.Runs.{Run, runs, runsFrom, runBytes, runBody, validateRuns, validateRunLength, runValues, runLengthValues}
 use Rattle.format.proofs.numbers.UvarintRows.{firstPadded-unpadded}
 use Rattle.format.proofs.numbers.Keys.{unzigzag-zigzag, zigzag-lt}
 use Rattle.format.proofs.numbers.All.{All, all-none, all-more}
-use Rattle.format.proofs.codecs.Occurs.{Occurs, occurs-first, occurs-next, occurs-at}
-use Rattle.format.proofs.codecs.Uvarints.{varint-read, varint-at}
+use Rattle.format.proofs.numbers.Occurs.{Occurs, occurs-first, occurs-next, occurs-at}
+use Rattle.format.proofs.numbers.Uvarints.{readUvarint-back, uvarintAt-back}
+use Rattle.format.proofs.numbers.Order.{eqZ-true}
 
 -- ---- the runs of a column
 
@@ -35,13 +38,6 @@ pub length-expanded : (rs : List Run) → length (expanded rs) ≡ timesIn rs
 unfolding expanded timesIn
 length-expanded [] = refl
 length-expanded (r ∷ rs) = simp (length-append, length-replicate, length-expanded rs)
-
--- keys that the test finds the same are the same
-pub eqZ-true : (a b : ℤ) → eqZ a b ≡ true → a ≡ b
-eqZ-true (pos a) (pos b) e = ap pos (eqb-true a b e)
-eqZ-true (pos a) (negsuc b) e = cc
-eqZ-true (negsuc a) (pos b) e = cc
-eqZ-true (negsuc a) (negsuc b) e = ap negsuc (eqb-true a b e)
 
 -- one value more of a run
 replicate-more : (n : ℕ) (v : ℤ) (vs : List ℤ) → replicate (n + 1) v ++ vs ≡ replicate n v ++ (v ∷ vs)
@@ -80,10 +76,10 @@ unfolding runsFrom
 count-from key times [] = le-refl 1
 count-from key times (v ∷ vs) = count-step key v times vs (λ n. count-from v n vs) (eqZ key v)
 
-pub count-runs : (column : List ℤ) → length (runs column) ≤ length column
+pub length-runs : (column : List ℤ) → length (runs column) ≤ length column
 unfolding runs
-count-runs [] = le-refl 0
-count-runs (v ∷ vs) = count-from v 1 vs
+length-runs [] = le-refl 0
+length-runs (v ∷ vs) = count-from v 1 vs
 
 -- a run of a key that is not too long for a varint
 pub record RunFits (r : Run) : Type 0 where
@@ -113,12 +109,12 @@ runs-small all-none h = all-none
 runs-small (all-more {x} {xs} k r) h = all-more {x = x} (record { key = k; small = omega arith }) (runs-small r (omega arith))
 
 -- the runs of a column fit varints
-pub runs-fit : {column : List ℤ} → All Key column → length column ≤ 2 ^ 24 → All RunFits (runs column)
+pub runs-fit : {column : List ℤ} → All Key column → length column ≤ maxChunkElements → All RunFits (runs column)
 runs-fit {column} ks n = runs-small (keys-runs ks) (omega (arith, times-runs column))
 
 -- ---- reading
 
--- runs that stand at a place: their end,
+-- runs that occur at a place: their end,
 pub runs-validate :
     {s : List ℕ} {at : ℕ} {rs : List Run} (padded : Option ℕ) → All RunFits rs → Occurs s at (runBytes rs)
     → validateRuns s at (length rs) (timesIn rs) padded ≡ ok (record { end = at + length (runBytes rs); padded = padded })
@@ -131,8 +127,8 @@ runs-validate {s} {at} padded (all-more {x} {xs} f fs) h =
     let ab : Occurs s at (a ++ b) = occurs-first (a ++ b) (runBytes xs) h in
     let m : x .times + timesIn xs - x .times ≡ timesIn xs = omega arith in
     rw (
-      varint-read (zigzag (x .key)) (zigzag-lt (x .key) (f .key)) (occurs-first a b ab),
-      varint-read (x .times) (f .small) (occurs-next a b ab),
+      readUvarint-back (zigzag (x .key)) (zigzag-lt (x .key) (f .key)) (occurs-first a b ab),
+      readUvarint-back (x .times) (f .small) (occurs-next a b ab),
       le-leb (x .times) (x .times + timesIn xs) (omega arith),
       m,
       firstPadded-unpadded padded at,
@@ -153,13 +149,13 @@ runs-back {s} {at} (all-more {x} {xs} f fs) h =
     let e : at + length (a ++ b) ≡ at + length a + length b = omega (arith, length-append a b) in
     let ab : Occurs s at (a ++ b) = occurs-first (a ++ b) (runBytes xs) h in
     ap (λ (k : UvarintRead). replicate (uvarintAt s (k .next) .value) (unzigzag (k .value)) ++ runValues s (uvarintAt s (k .next) .next) (length xs))
-    (varint-at (zigzag (x .key)) (zigzag-lt (x .key) (f .key)) (occurs-first a b ab))
+    (uvarintAt-back (zigzag (x .key)) (zigzag-lt (x .key) (f .key)) (occurs-first a b ab))
     ∙ ap (λ (t : UvarintRead). replicate (t .value) (unzigzag (zigzag (x .key))) ++ runValues s (t .next) (length xs))
-    (varint-at (x .times) (f .small) (occurs-next a b ab))
+    (uvarintAt-back (x .times) (f .small) (occurs-next a b ab))
     ∙ rw (unzigzag-zigzag (x .key)) (ap (λ (l : List ℤ). replicate (x .times) (x .key) ++ l) (runs-back fs (occurs-at e (occurs-next (a ++ b) (runBytes xs) h))))
 
-module _ {s : List ℕ} {at : ℕ} {column : List ℤ} (ks : All Key column) (few : length column ≤ 2 ^ 24) where
-  -- RunLength: the end of a body that stands at a place,
+module _ {s : List ℕ} {at : ℕ} {column : List ℤ} (ks : All Key column) (few : length column ≤ maxChunkElements) where
+  -- RunLength: the end of a body that occurs at a place,
   pub runLength-validate :
       Occurs s at (runBody column) → (padded : Option ℕ)
       → validateRunLength s at (length column) padded ≡ ok (record { end = at + length (runBody column); padded = padded })
@@ -167,8 +163,8 @@ module _ {s : List ℕ} {at : ℕ} {column : List ℤ} (ks : All Key column) (fe
   runLength-validate h padded =
       let a : List ℕ = uvarintBytes (length (runs column)) in
       rw (
-        varint-read (length (runs column)) (omega (arith, count-runs column)) (occurs-first a (runBytes (runs column)) h),
-        le-leb (length (runs column)) (length column) (count-runs column),
+        readUvarint-back (length (runs column)) (omega (arith, length-runs column)) (occurs-first a (runBytes (runs column)) h),
+        le-leb (length (runs column)) (length column) (length-runs column),
         firstPadded-unpadded padded at,
         ← times-runs column,
         length-append a (runBytes (runs column)),
@@ -182,6 +178,6 @@ module _ {s : List ℕ} {at : ℕ} {column : List ℤ} (ks : All Key column) (fe
   runLength-back h =
       let a : List ℕ = uvarintBytes (length (runs column)) in
       ap (λ (n : UvarintRead). runValues s (n .next) (n .value))
-      (varint-at (length (runs column)) (omega (arith, count-runs column)) (occurs-first a (runBytes (runs column)) h))
+      (uvarintAt-back (length (runs column)) (omega (arith, length-runs column)) (occurs-first a (runBytes (runs column)) h))
       ∙ runs-back (runs-fit ks few) (occurs-next a (runBytes (runs column)) h)
       ∙ expanded-runs column

@@ -20,10 +20,11 @@ use Rattle.format.specs.Estimates.{estimatesOf, lengthIn}
 use Rattle.format.specs.declared.Encoding.the-variants.{DeltaBinaryPacked}
 use Rattle.format.proofs.numbers.Widths.{width-mono}
 use Rattle.format.proofs.numbers.Keys.{gap-lt}
-use Rattle.format.proofs.numbers.All.{All, all-take, all-drop, deltas-keys}
+use Rattle.format.proofs.numbers.All.{All, all-take, all-drop}
+use Rattle.format.proofs.numbers.Columns.{deltas-keys, length-deltas}
 use Rattle.format.proofs.numbers.Extremes.{least-all, greatest-all, span-part, varintLen-part}
-use Rattle.format.proofs.lengths.Parts.{length-deltas}
 use Rattle.format.proofs.numbers.Packing.{packedLen-mono, packedLen-split}
+use Rattle.format.proofs.codecs.Counts.{blockCount-enough}
 use Rattle.format.proofs.lengths.Estimates.{delta-estimate}
 use Rattle.format.proofs.lengths.DeltaLength.{blockLen, blocksLen, deltaBlockSize-len, delta-length}
 
@@ -88,12 +89,7 @@ module _ (whole : List ℤ) (keys : All Key whole) where
       rw rest-length at (blocks-most k (drop 128 part) (omega arith) (omega arith) (part-drop 128 p)) in
       rw suc-mul (omega (arith, packedLen-split n w))
 
--- as many blocks as are written hold all deltas,
-blockCount-enough : (n : ℕ) → n ≤ 128 * blockCount 128 n
-unfolding blockCount
-blockCount-enough n = omega arith
-
--- and the last one holds one at least
+-- the last of the blocks that are written holds one delta at least
 blockCount-last : (n : ℕ) → 128 * blockCount 128 n < n + 128
 unfolding blockCount
 blockCount-last n = omega arith
@@ -103,7 +99,8 @@ blocksLen-most :
     (ds : List ℤ) → All Key ds
     → blocksLen (blockCount 128 (length ds)) ds ≤ blockCount 128 (length ds) * blockCharge ds + packedLen (length ds) (spanWidth ds)
 blocksLen-most ds keys =
-    blocks-most ds keys (blockCount 128 (length ds)) ds (blockCount-enough (length ds)) (blockCount-last (length ds)) (part-self ds keys)
+    let enough : length ds ≤ 128 * blockCount 128 (length ds) = omega (arith, blockCount-enough 128 (length ds) (omega arith)) in
+    blocks-most ds keys (blockCount 128 (length ds)) ds enough (blockCount-last (length ds)) (part-self ds keys)
 
 -- Delta, of two values or more: the chunk has at most the estimated bytes
 pub delta-most : (column : List ℤ) → 2 ≤ length column → length (chunkOf DeltaBinaryPacked column) ≤ lengthIn (estimatesOf column) DeltaBinaryPacked

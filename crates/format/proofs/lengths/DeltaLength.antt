@@ -18,9 +18,10 @@ use Rattle.format.specs.Chunk.{bodyOf, chunkOf}
 use Rattle.format.specs.declared.Encoding.the-variants.{DeltaBinaryPacked}
 use Rattle.format.proofs.numbers.Uvarints.{length-uvarintBytes}
 use Rattle.format.proofs.numbers.Keys.{length-varintBytes}
-use Rattle.format.proofs.numbers.All.{All, all-take, all-drop, deltas-keys}
+use Rattle.format.proofs.numbers.All.{All, all-take, all-drop}
+use Rattle.format.proofs.numbers.Columns.{deltas-keys, length-deltas}
 use Rattle.format.proofs.numbers.Extremes.{largest-gaps}
-use Rattle.format.proofs.lengths.Parts.{length-blockBytes, length-deltas}
+use Rattle.format.proofs.lengths.Parts.{length-blockBytes}
 use Rattle.format.proofs.lengths.Exact.{length-chunk}
 
 -- the bytes of one block, by its least and greatest delta

@@ -25,7 +25,7 @@ use Rattle.format.proofs.numbers.Packing.{length-packed}
 use Rattle.format.proofs.numbers.Uvarints.{length-uvarintBytes}
 use Rattle.format.proofs.numbers.Keys.{length-keyBytes}
 use Rattle.format.proofs.codecs.Header.{length-headerBytes}
-use Rattle.format.proofs.numbers.All.{keys-all}
+use Rattle.format.proofs.numbers.Columns.{keys-all}
 use Rattle.format.proofs.numbers.Extremes.{largest-gaps}
 use Rattle.format.proofs.lengths.Estimates.{plain-estimate, varint-estimate, bitPacked-estimate, frame-estimate, runLength-estimate, dictionary-estimate, dictionary-few}
 

@@ -1,21 +1,21 @@
 -- How long an estimate can be, for a column of up to 2^24 values: at most 335,544,336 bytes, and Plain's at most 134,217,734. So every number that is summed up
--- on the way fits 64 bits, and is exact as an f64. A varint has at most 10 bytes and a width at most 64 bits, and each estimate sums so many of them a value.
+-- on the way fits 64 bits, and is exact as an f64. A varint has at most 10 bytes and a packed number at most 8, and an estimate has at most two of these a value.
 use mathlib.Core.Path.{_≡_}
-use Prim.Native.Nat.{ℕ, suc, _+_, _-_, _*_, max, _≤_}
-use native.Mathlib.Nat.{le-refl, le-trans, mul-le-mul-left, suc-mul}
+use Prim.Native.Nat.{ℕ, _+_, _-_, _*_, max, _≤_}
+use native.Mathlib.Nat.{le-trans, mul-le-mul-left, suc-mul}
 use native.Mathlib.Decide.{decLe}
 use native.Mathlib.Omega.{arith}
-use mathlib.Core.Bool.{Bool, true, false, cond}
+use mathlib.Core.Bool.{true}
 use mathlib.Core.List.{List, [], _∷_, map}
 use lib.IntN.{ℤ, pos}
-use lib.ListN.{length, length-append, getD}
-use Rattle.format.specs.Keys.{gap, zigzag, eqZ}
+use lib.ListN.{length, getD}
+use Rattle.format.specs.Keys.{gap, zigzag}
 use Rattle.format.specs.Varint.{uvarintLen, varintLen}
 use Rattle.format.specs.Width.{width}
 use Rattle.format.specs.Encodings.{maxChunkElements, maxDictionaryCardinality}
 use Rattle.format.specs.Folds.{least, greatest, largest, total, deltas}
 use Rattle.format.specs.Header.{headerLen}
-use Rattle.format.specs.Runs.{Run, runsFrom, runs}
+use Rattle.format.specs.Runs.{Run, runs}
 use Rattle.format.specs.Distinct.{distinct}
 use Rattle.format.specs.Dictionary.{codeWidth}
 use Rattle.format.specs.Delta.{deltaBlockSize, blockCount}
@@ -25,7 +25,8 @@ use Rattle.format.specs.declared.Encoding.{Encoding}
 use Rattle.format.specs.declared.Encoding.the-variants.{Plain, Varint, BitPacked, FrameOfReference, RunLength, Dictionary, DeltaBinaryPacked}
 use Rattle.format.proofs.numbers.Widths.{width-le, uvarintLen-pos, uvarintLen-le, uvarintLen-least}
 use Rattle.format.proofs.numbers.Packing.{packedLen-most}
-use Rattle.format.proofs.numbers.Distinct.{distinct-most}
+use Rattle.format.proofs.numbers.Distinct.{length-distinct}
+use Rattle.format.proofs.codecs.RunLength.{length-runs}
 use Rattle.format.proofs.lengths.Estimates.{plain-estimate, varint-estimate, bitPacked-estimate, frame-estimate, runLength-estimate, dictionary-estimate, delta-estimate, dictionary-none, delta-none, dictionary-few, delta-two}
 use Rattle.format.proofs.lengths.DeltaLength.{deltaBlockSize-len}
 
@@ -51,25 +52,9 @@ total-most f c (a ∷ as') h = rw suc-mul (omega (arith, h a, total-most f c as'
 pub total-varintLen-most : (column : List ℤ) → total (map varintLen column) ≤ 10 * length column
 total-varintLen-most column = omega (arith, total-most varintLen 10 column varintLen-le)
 
--- a walk ends at most one run for each value to come, and one more
-runsFrom-most : (key : ℤ) (times : ℕ) (vs : List ℤ) → length (runsFrom key times vs) ≤ suc (length vs)
-unfolding runsFrom
-runsFrom-most key times [] = le-refl 1
-runsFrom-most key times (v ∷ vs) = rw length-append (go (eqZ key v) (runsFrom-most v (cond (eqZ key v) (times + 1) 1) vs))
-  where
-    go : (t : Bool) {n : ℕ} → n ≤ suc (length vs) → length {A = Run} (cond t [] (record { key = key; times = times } ∷ [])) + n ≤ suc (length (v ∷ vs))
-    go true i = omega arith
-    go false i = omega arith
-
--- `run_count` is at most the count
-pub runs-most : (column : List ℤ) → length (runs column) ≤ length column
-unfolding runs
-runs-most [] = le-refl 0
-runs-most (v ∷ vs) = runsFrom-most v 1 vs
-
 -- `run_length_body_bytes` is at most 20 bytes a value
 pub total-runLen-most : (column : List ℤ) → total (map runLen (runs column)) ≤ 20 * length column
-total-runLen-most column = omega (arith, total-most runLen 20 (runs column) runLen-le, runs-most column)
+total-runLen-most column = omega (arith, total-most runLen 20 (runs column) runLen-le, length-runs column)
 
 -- the gaps of a dictionary have at most 10 bytes each,
 gapsLen-most : (last : ℤ) (es : List ℤ) → gapsLen last es ≤ 10 * length es
@@ -128,7 +113,7 @@ module _ (column : List ℤ) (size : length column ≤ maxChunkElements) where
   -- RunLength
   pub runLength-most : lengthIn (estimatesOf column) RunLength ≤ 10 + 20 * length column
   runLength-most =
-      let runs-size : length (runs column) ≤ maxChunkElements = le-trans (runs-most column) size in
+      let runs-size : length (runs column) ≤ maxChunkElements = le-trans (length-runs column) size in
       rw runLength-estimate (omega (arith, headerLen-most (length column) size, uvarintLen-count (length (runs column)) runs-size, total-runLen-most column))
 
   -- Dictionary, available or not
@@ -142,8 +127,8 @@ module _ (column : List ℤ) (size : length column ≤ maxChunkElements) where
           (omega (
             arith,
             headerLen-most (length column) size,
-            uvarintLen-count d (le-trans (distinct-most column) size),
-            distinct-most column,
+            uvarintLen-count d (le-trans (length-distinct column) size),
+            length-distinct column,
             entriesLen-most (distinct column),
             packedLen-most (length column) (codeWidth d) (codeWidth-le d),
           ))

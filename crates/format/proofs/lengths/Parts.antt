@@ -9,7 +9,7 @@ use Rattle.format.specs.Keys.{gap}
 use Rattle.format.specs.Varint.{varintLen}
 use Rattle.format.specs.Width.{width}
 use Rattle.format.specs.Packing.{packedLen}
-use Rattle.format.specs.Folds.{largest, total, least, deltas}
+use Rattle.format.specs.Folds.{largest, total, least}
 use Rattle.format.specs.Plain.{plainBody}
 use Rattle.format.specs.VarintBody.{varintBody}
 use Rattle.format.specs.BitPacked.{packedBody}
@@ -20,7 +20,6 @@ use Rattle.format.specs.Statistics.{runLen}
 use Rattle.format.specs.Estimates.{gapsLen, entriesLen}
 use Rattle.format.proofs.numbers.Uvarints.{length-uvarintBytes}
 use Rattle.format.proofs.numbers.Keys.{length-keyBytes, length-varintBytes}
-use Rattle.format.proofs.numbers.Inverses.{length-deltasFrom}
 use Rattle.format.proofs.numbers.Packing.{length-packed}
 
 -- a width byte and the numbers packed at it
@@ -62,8 +61,3 @@ length-entryBytes (e ∷ es) = simp (length-append, length-varintBytes, length-g
 pub length-blockBytes : (ds : List ℤ) → length (blockBytes ds) ≡ varintLen (least ds) + (1 + packedLen (length ds) (width (largest (map (gap (least ds)) ds))))
 unfolding blockBytes
 length-blockBytes ds = simp (length-append, length-varintBytes, length-packedBody, length-map)
-
--- deltas: one fewer than the values
-pub length-deltas : (v : ℤ) (vs : List ℤ) → length (deltas (v ∷ vs)) ≡ length vs
-unfolding deltas
-length-deltas v vs = length-deltasFrom v vs

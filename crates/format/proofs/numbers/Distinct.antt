@@ -1,4 +1,5 @@
--- How many distinct values there are, and where the gathered ones are all of them.
+-- The distinct values of a column: how many there are, that the walk capped at 16,384 gives all of them where there are no more, and that they are keys. Each law
+-- is one of `insert`, which adds one value at most and none that is there, followed along the walk.
 use mathlib.Core.Path.{_≡_, refl, sym, ap, _∙_}
 use Prim.Native.Nat.{suc, _+_, min, _≤_, _<_}
 use native.Mathlib.Nat.{le-refl, le-trans}
@@ -10,9 +11,11 @@ use lib.Dec.{ltb}
 use lib.Signed.{ltZ}
 use lib.ListN.{length}
 use borrow.Author.Tests.{ltb-true, ltb-false, le-ltb, lt-ltb}
+use Rattle.format.specs.Keys.{Key}
 use Rattle.format.specs.Encodings.{maxDictionaryCardinality}
 use Rattle.format.specs.Distinct.{insert, distinctFrom, distinct, tooManyDistinct, cappedDistinctFrom, cappedDistinct}
 use Rattle.format.specs.Statistics.{distinctValues}
+use Rattle.format.proofs.numbers.All.{all-more, all-none, All}
 
 -- taking a value in loses none
 pub insert-grows : (v : ℤ) (held : List ℤ) → length held ≤ length (insert v held)
@@ -26,10 +29,10 @@ insert-grows v (x ∷ xs) = go (ltZ x v) (ltZ v x) (insert-grows v xs)
     go false false i = le-refl _
 
 -- and adds one at most
-pub insert-one : (v : ℤ) (held : List ℤ) → length (insert v held) ≤ suc (length held)
+pub length-insert : (v : ℤ) (held : List ℤ) → length (insert v held) ≤ suc (length held)
 unfolding insert
-insert-one v [] = omega arith
-insert-one v (x ∷ xs) = go (ltZ x v) (ltZ v x) (insert-one v xs)
+length-insert v [] = omega arith
+length-insert v (x ∷ xs) = go (ltZ x v) (ltZ v x) (length-insert v xs)
   where
     go : (a b : Bool) → length (insert v xs) ≤ suc (length xs) → length (cond a (x ∷ insert v xs) (cond b (v ∷ x ∷ xs) (x ∷ xs))) ≤ suc (length (x ∷ xs))
     go true b i = omega arith
@@ -37,7 +40,7 @@ insert-one v (x ∷ xs) = go (ltZ x v) (ltZ v x) (insert-one v xs)
     go false false i = omega arith
 
 -- where the count does not grow, the value was there
-pub insert-same : (v : ℤ) (held : List ℤ) → length (insert v held) ≤ length held → insert v held ≡ held
+insert-same : (v : ℤ) (held : List ℤ) → length (insert v held) ≤ length held → insert v held ≡ held
 unfolding insert
 insert-same v [] h = absurd (omega arith)
 insert-same v (x ∷ xs) h = go (ltZ x v) (ltZ v x) (insert-same v xs) h
@@ -50,21 +53,21 @@ insert-same v (x ∷ xs) h = go (ltZ x v) (ltZ v x) (insert-same v xs) h
     go false false i h = refl
 
 -- the walk loses none that is held
-pub distinctFrom-grows : (held vs : List ℤ) → length held ≤ length (distinctFrom held vs)
+distinctFrom-grows : (held vs : List ℤ) → length held ≤ length (distinctFrom held vs)
 unfolding distinctFrom
 distinctFrom-grows held [] = le-refl _
 distinctFrom-grows held (v ∷ vs) = le-trans (insert-grows v held) (distinctFrom-grows (insert v held) vs)
 
 -- and adds at most what is to come
-pub distinctFrom-most : (held vs : List ℤ) → length (distinctFrom held vs) ≤ length held + length vs
+distinctFrom-most : (held vs : List ℤ) → length (distinctFrom held vs) ≤ length held + length vs
 unfolding distinctFrom
 distinctFrom-most held [] = omega arith
-distinctFrom-most held (v ∷ vs) = omega (arith, insert-one v held, distinctFrom-most (insert v held) vs)
+distinctFrom-most held (v ∷ vs) = omega (arith, length-insert v held, distinctFrom-most (insert v held) vs)
 
 -- no more distinct values than values
-pub distinct-most : (column : List ℤ) → length (distinct column) ≤ length column
+pub length-distinct : (column : List ℤ) → length (distinct column) ≤ length column
 unfolding distinct
-distinct-most column = omega (arith, distinctFrom-most [] column)
+length-distinct column = omega (arith, distinctFrom-most [] column)
 
 -- at least one, where there is a value
 pub distinct-some : (v : ℤ) (vs : List ℤ) → 1 ≤ length (distinct (v ∷ vs))
@@ -72,7 +75,7 @@ unfolding distinct distinctFrom insert
 distinct-some v vs = distinctFrom-grows (v ∷ []) vs
 
 -- the walk that stops at 16,384 is the walk, where no more are met
-pub cappedDistinctFrom-all : (held vs : List ℤ) → length (distinctFrom held vs) ≤ maxDictionaryCardinality → cappedDistinctFrom held vs ≡ distinctFrom held vs
+cappedDistinctFrom-all : (held vs : List ℤ) → length (distinctFrom held vs) ≤ maxDictionaryCardinality → cappedDistinctFrom held vs ≡ distinctFrom held vs
 unfolding distinctFrom cappedDistinctFrom
 cappedDistinctFrom-all held [] h = refl
 cappedDistinctFrom-all held (v ∷ vs) h =
@@ -86,19 +89,19 @@ cappedDistinctFrom-all held (v ∷ vs) h =
         sym (insert-same v held (le-trans top full))
 
 -- not too many: at most 16,384
-pub few-of-tooManyDistinct : (column : List ℤ) → tooManyDistinct column ≡ false → length (distinct column) ≤ maxDictionaryCardinality
+pub few-distinct : (column : List ℤ) → tooManyDistinct column ≡ false → length (distinct column) ≤ maxDictionaryCardinality
 unfolding tooManyDistinct
-few-of-tooManyDistinct column e = ltb-false _ _ e
+few-distinct column e = ltb-false _ _ e
 
 -- and back
-pub tooManyDistinct-of-few : (column : List ℤ) → length (distinct column) ≤ maxDictionaryCardinality → tooManyDistinct column ≡ false
+pub not-tooManyDistinct : (column : List ℤ) → length (distinct column) ≤ maxDictionaryCardinality → tooManyDistinct column ≡ false
 unfolding tooManyDistinct
-tooManyDistinct-of-few column h = le-ltb _ _ h
+not-tooManyDistinct column h = le-ltb _ _ h
 
 -- too many: more than 16,384
-pub tooManyDistinct-of-many : (column : List ℤ) → maxDictionaryCardinality < length (distinct column) → tooManyDistinct column ≡ true
+pub tooManyDistinct-is : (column : List ℤ) → maxDictionaryCardinality < length (distinct column) → tooManyDistinct column ≡ true
 unfolding tooManyDistinct
-tooManyDistinct-of-many column h = lt-ltb _ _ h
+tooManyDistinct-is column h = lt-ltb _ _ h
 
 -- the scratch's front holds all the distinct values, where there are not too many
 pub cappedDistinct-all : (column : List ℤ) → length (distinct column) ≤ maxDictionaryCardinality → cappedDistinct column ≡ distinct column
@@ -108,23 +111,23 @@ cappedDistinct-all column h = cappedDistinctFrom-all [] column h
 -- the part that is handed back is all of them, where there are not too many
 pub distinctValues-all : (column : List ℤ) → length (distinct column) ≤ maxDictionaryCardinality → distinctValues column ≡ distinct column
 unfolding distinctValues
-distinctValues-all column h = rw (tooManyDistinct-of-few column h)
+distinctValues-all column h = rw (not-tooManyDistinct column h)
 
 -- where there are too many, none is handed back
 pub distinctValues-none : (column : List ℤ) → maxDictionaryCardinality < length (distinct column) → distinctValues column ≡ []
 unfolding distinctValues
-distinctValues-none column h = rw (tooManyDistinct-of-many column h)
+distinctValues-none column h = rw (tooManyDistinct-is column h)
 
 -- ---- how many the scratch's front holds
 
 -- once 16,384 are held no value is taken in
-pub cappedDistinctFrom-full : (held vs : List ℤ) → maxDictionaryCardinality ≤ length held → cappedDistinctFrom held vs ≡ held
+cappedDistinctFrom-full : (held vs : List ℤ) → maxDictionaryCardinality ≤ length held → cappedDistinctFrom held vs ≡ held
 unfolding cappedDistinctFrom
 cappedDistinctFrom-full held [] h = refl
 cappedDistinctFrom-full held (v ∷ vs) h = rw (le-ltb (length held) maxDictionaryCardinality h) (cappedDistinctFrom-full held vs h)
 
 -- the distinct values, up to 16,384
-pub length-cappedDistinctFrom : (held vs : List ℤ) → length held ≤ maxDictionaryCardinality → length (cappedDistinctFrom held vs) ≡ min maxDictionaryCardinality (length (distinctFrom held vs))
+length-cappedDistinctFrom : (held vs : List ℤ) → length held ≤ maxDictionaryCardinality → length (cappedDistinctFrom held vs) ≡ min maxDictionaryCardinality (length (distinctFrom held vs))
 unfolding distinctFrom cappedDistinctFrom
 length-cappedDistinctFrom held [] h = omega arith
 length-cappedDistinctFrom held (v ∷ vs) h = go (ltb (length held) maxDictionaryCardinality) refl (length-cappedDistinctFrom (insert v held) vs)
@@ -132,7 +135,7 @@ length-cappedDistinctFrom held (v ∷ vs) h = go (ltb (length held) maxDictionar
     go : (t : Bool) → ltb (length held) maxDictionaryCardinality ≡ t
         → (length (insert v held) ≤ maxDictionaryCardinality → length (cappedDistinctFrom (insert v held) vs) ≡ min maxDictionaryCardinality (length (distinctFrom (insert v held) vs)))
         → length (cappedDistinctFrom (cond t (insert v held) held) vs) ≡ min maxDictionaryCardinality (length (distinctFrom (insert v held) vs))
-    go true e i = i (omega (arith, ltb-true (length held) maxDictionaryCardinality e, insert-one v held))
+    go true e i = i (omega (arith, ltb-true (length held) maxDictionaryCardinality e, length-insert v held))
     go false e i =
         let full : maxDictionaryCardinality ≤ length held = ltb-false (length held) maxDictionaryCardinality e in
         rw (cappedDistinctFrom-full held vs full) (omega (arith, insert-grows v held, distinctFrom-grows (insert v held) vs))
@@ -144,4 +147,28 @@ length-cappedDistinct column = length-cappedDistinctFrom [] column (omega arith)
 
 -- so a scratch of the size that is asked for has room for them
 pub cappedDistinct-most : (column : List ℤ) → length (cappedDistinct column) ≤ min (length column) maxDictionaryCardinality
-cappedDistinct-most column = omega (arith, length-cappedDistinct column, distinct-most column)
+cappedDistinct-most column = omega (arith, length-cappedDistinct column, length-distinct column)
+
+-- ---- of a column of keys they are keys
+
+key-step : (v x : ℤ) (xs : List ℤ) → Key v → Key x → All Key xs → All Key (insert v xs) → (t u : Bool)
+    → All Key (cond t (x ∷ insert v xs) (cond u (v ∷ x ∷ xs) (x ∷ xs)))
+key-step v x xs k l r ih true u = all-more l ih
+key-step v x xs k l r ih false true = all-more k (all-more l r)
+key-step v x xs k l r ih false false = all-more l r
+
+-- a key inserted into keys
+insert-keys : {xs : List ℤ} (v : ℤ) → Key v → All Key xs → All Key (insert v xs)
+unfolding insert
+insert-keys v k all-none = all-more k all-none
+insert-keys v k (all-more {x} {xs} l r) = key-step v x xs k l r (insert-keys v k r) (ltZ x v) (ltZ v x)
+
+keys-from : {held vs : List ℤ} → All Key held → All Key vs → All Key (distinctFrom held vs)
+unfolding distinctFrom
+keys-from h all-none = h
+keys-from h (all-more {x} k r) = keys-from (insert-keys x k h) r
+
+-- the distinct values of a column of keys are keys
+pub distinct-keys : {column : List ℤ} → All Key column → All Key (distinct column)
+unfolding distinct
+distinct-keys ks = keys-from all-none ks

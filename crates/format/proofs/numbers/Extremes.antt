@@ -1,4 +1,5 @@
--- The least, the greatest and the largest of a list, against its elements and its parts. Assumes nothing.
+-- The least, the greatest and the largest of a list bound its elements and are among them. So a part has no wider span than the whole, numbers fit the width of
+-- the largest, and the largest gap and the largest ZigZag of a column are those of its least and greatest value.
 use mathlib.Core.Path.{_≡_, refl, _∙_}
 use mathlib.Core.List.{List, [], _∷_, _++_, map}
 use Prim.Native.Nat.{ℕ, _%_, _^_, _≤_, _<_, max, zero-le}
@@ -6,18 +7,16 @@ use native.Mathlib.Nat.{le-trans, le-antisymm, le-max-left, le-max-right, max-le
 use native.Mathlib.Omega.{arith}
 use lib.IntN.{ℤ, pos}
 use lib.Dec.{lit<}
-use lib.Signed.{mag, _≤ℤ_, ≤ℤ-refl}
-use lib.ListN.{length, getD, take, drop}
+use lib.Signed.{_≤ℤ_, ≤ℤ-refl}
+use lib.ListN.{length}
 use Rattle.format.specs.Keys.{gap, zigzag, lesser, greater, Key}
 use Rattle.format.specs.Varint.{varintLen}
 use Rattle.format.specs.Width.{width}
 use Rattle.format.specs.Packing.{packed, unpacked}
 use Rattle.format.specs.Folds.{leastFrom, least, greatestFrom, greatest, largest}
-use Rattle.format.proofs.numbers.Digits.{Below, none, more}
+use Rattle.format.proofs.numbers.All.{Below, All, all-none, all-more, all-imp, all-map, all-unmap, all-both, map-id}
 use Rattle.format.proofs.numbers.Packing.{unpacked-packed}
 use Rattle.format.proofs.numbers.Widths.{width-lt}
-use Rattle.format.proofs.numbers.Keys.{gap-lt}
-use Rattle.format.proofs.numbers.All.{All, all-none, all-more, all-imp, all-take, all-drop, all-left, all-right, all-at, all-by, all-map, all-unmap, all-both, map-id, below-all, all-below}
 use Rattle.format.proofs.numbers.Order.{≤ℤ-trans, lesser-left, lesser-right, lesser-has, greater-left, greater-right, greater-has, gap-upper, gap-inside, zigzag-between, varintLen-between}
 
 -- ---- the least
@@ -81,31 +80,15 @@ greatest-has P {column = v ∷ vs} q (all-more h r) = greatestFrom-has P v h r
 -- ---- both
 
 -- of keys both are keys (0 for the empty column)
-pub least-key : {column : List ℤ} → All Key column → mag (least column) < 2 ^ 63
+pub least-key : {column : List ℤ} → All Key column → Key (least column)
 unfolding least
 least-key all-none = lit< tt
 least-key (all-more {x} h r) = leastFrom-has Key x h r
 
-pub greatest-key : {column : List ℤ} → All Key column → mag (greatest column) < 2 ^ 63
+pub greatest-key : {column : List ℤ} → All Key column → Key (greatest column)
 unfolding greatest
 greatest-key all-none = lit< tt
 greatest-key (all-more {x} h r) = greatestFrom-has Key x h r
-
--- the place of each
-pub least-at : (column : List ℤ) → 0 < length column → (i : ℕ) × (i < length column) × (getD column i (pos 0) ≡ least column)
-least-at column q =
-    least-has (λ v. (i : ℕ) × (i < length column) × (getD column i (pos 0) ≡ v)) q (all-by column (pos 0) (λ i h. (i, h, refl)))
-
-pub greatest-at : (column : List ℤ) → 0 < length column → (i : ℕ) × (i < length column) × (getD column i (pos 0) ≡ greatest column)
-greatest-at column q =
-    greatest-has (λ v. (i : ℕ) × (i < length column) × (getD column i (pos 0) ≡ v)) q (all-by column (pos 0) (λ i h. (i, h, refl)))
-
--- by places
-pub least-le : (column : List ℤ) (i : ℕ) → i < length column → least column ≤ℤ getD column i (pos 0)
-least-le column i h = all-at (pos 0) (least-all column) i h
-
-pub le-greatest : (column : List ℤ) (i : ℕ) → i < length column → getD column i (pos 0) ≤ℤ greatest column
-le-greatest column i h = all-at (pos 0) (greatest-all column) i h
 
 -- the least is at most the greatest
 pub least-greatest : (column : List ℤ) → least column ≤ℤ greatest column
@@ -120,33 +103,6 @@ least-part whole q r = least-has (λ v. least whole ≤ℤ v) q r
 
 pub greatest-part : (whole : List ℤ) {part : List ℤ} → 0 < length part → All (λ v. v ≤ℤ greatest whole) part → greatest part ≤ℤ greatest whole
 greatest-part whole q r = greatest-has (λ v. v ≤ℤ greatest whole) q r
-
--- the front, the rest, and a part in the middle
-pub least-take : (n : ℕ) (column : List ℤ) → 0 < length (take n column) → least column ≤ℤ least (take n column)
-least-take n column q = least-part column q (all-take n (least-all column))
-
-pub least-drop : (n : ℕ) (column : List ℤ) → 0 < length (drop n column) → least column ≤ℤ least (drop n column)
-least-drop n column q = least-part column q (all-drop n (least-all column))
-
-pub greatest-take : (n : ℕ) (column : List ℤ) → 0 < length (take n column) → greatest (take n column) ≤ℤ greatest column
-greatest-take n column q = greatest-part column q (all-take n (greatest-all column))
-
-pub greatest-drop : (n : ℕ) (column : List ℤ) → 0 < length (drop n column) → greatest (drop n column) ≤ℤ greatest column
-greatest-drop n column q = greatest-part column q (all-drop n (greatest-all column))
-
--- either of two in a row
-module _ (xs ys : List ℤ) where
-  pub least-left : 0 < length xs → least (xs ++ ys) ≤ℤ least xs
-  least-left q = least-part (xs ++ ys) q (all-left xs ys (least-all (xs ++ ys)))
-
-  pub least-right : 0 < length ys → least (xs ++ ys) ≤ℤ least ys
-  least-right q = least-part (xs ++ ys) q (all-right xs ys (least-all (xs ++ ys)))
-
-  pub greatest-left : 0 < length xs → greatest xs ≤ℤ greatest (xs ++ ys)
-  greatest-left q = greatest-part (xs ++ ys) q (all-left xs ys (greatest-all (xs ++ ys)))
-
-  pub greatest-right : 0 < length ys → greatest ys ≤ℤ greatest (xs ++ ys)
-  greatest-right q = greatest-part (xs ++ ys) q (all-right xs ys (greatest-all (xs ++ ys)))
 
 -- the span of a part of keys is at most the whole's
 pub span-part : (whole part : List ℤ) → All Key whole → All Key part → 0 < length part
@@ -170,9 +126,6 @@ unfolding largest
 largest-all [] = all-none
 largest-all (n ∷ ns) = all-more (le-max-left n (largest ns)) (all-imp (λ m h. le-trans h (le-max-right n (largest ns))) (largest-all ns))
 
-pub le-largest : (ns : List ℕ) (i : ℕ) → i < length ns → getD ns i 0 ≤ largest ns
-le-largest ns i h = all-at 0 (largest-all ns) i h
-
 -- a bound of each bounds it
 pub largest-le : (b : ℕ) {ns : List ℕ} → All (λ n. n ≤ b) ns → largest ns ≤ b
 unfolding largest
@@ -181,33 +134,24 @@ largest-le b (all-more h r) = max-le h (largest-le b r)
 
 pub largest-lt : (b : ℕ) {ns : List ℕ} → 0 < b → Below b ns → largest ns < b
 unfolding largest
-largest-lt b q none = q
-largest-lt b q (more {d} {ds} h r) = let k = largest-lt b q r in omega arith
-
--- a bound of each that is one of them is it
-pub largest-is : (b : ℕ) {ns : List ℕ} (i : ℕ) → i < length ns → getD ns i 0 ≡ b → All (λ n. n ≤ b) ns → largest ns ≡ b
-largest-is b {ns} i h e r = le-antisymm (largest-le b r) (rw (← e) (le-largest ns i h))
+largest-lt b q all-none = q
+largest-lt b q (all-more h r) = let k = largest-lt b q r in omega arith
 
 -- numbers below 2^64 are below 2 to the width of the largest
 pub below-widest : {ns : List ℕ} → Below (2 ^ 64) ns → Below (2 ^ width (largest ns)) ns
 below-widest {ns} r =
     let k : largest ns < 2 ^ width (largest ns) = width-lt (largest ns) (largest-lt (2 ^ 64) (lit< tt) r) in
-    all-below (all-imp (λ n h. lt-of-le-of-lt h k) (largest-all ns))
+    (all-imp (λ n h. lt-of-le-of-lt h k) (largest-all ns))
 
 -- what is below a bound is its own remainder
 pub mod-below : {b : ℕ} {ns : List ℕ} → Below b ns → map (λ n. n % b) ns ≡ ns
-mod-below r = map-id (all-imp (λ n h. mod-eq-of-lt h) (below-all r))
+mod-below r = map-id (all-imp (λ n h. mod-eq-of-lt h) r)
 
 -- so packing at that width loses nothing
 pub unpacked-widest : (ns rest : List ℕ) → Below (2 ^ 64) ns → unpacked (width (largest ns)) (length ns) (packed (width (largest ns)) ns ++ rest) ≡ ns
 unpacked-widest ns rest r = unpacked-packed (width (largest ns)) ns rest ∙ mod-below (below-widest r)
 
 -- ---- the largest gap and the largest ZigZag of a column
-
--- gaps are below 2^64
-pub below-gaps : (a : ℤ) (column : List ℤ) → Below (2 ^ 64) (map (gap a) column)
-below-gaps a [] = none
-below-gaps a (v ∷ vs) = more (gap-lt a v) (below-gaps a vs)
 
 -- the largest gap from the least is that to the greatest
 module _ (column : List ℤ) (k : All Key column) (q : 0 < length column) where

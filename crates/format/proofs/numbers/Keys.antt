@@ -1,7 +1,8 @@
--- Keys modulo 2^64, their eight bytes, and ZigZag: what is written is read back. A key is a v with mag v < 2 ^ 63. Assumes nothing.
+-- Keys modulo 2^64: a key is its residue read as signed, so a sum that wraps gives a key back from its gap or its delta; its eight bytes and its ZigZag are read
+-- back. The cases of the sign are left to omega, over the residues.
 use mathlib.Core.Path.{_≡_, sym, ap, _∙_}
 use mathlib.Core.Bool.{Bool, true, false, cond}
-use mathlib.Core.List.{List, _++_}
+use mathlib.Core.List.{List}
 use Prim.Native.Nat.{ℕ, suc, _+_, _-_, _*_, _/_, _%_, _^_, _≤_, _<_}
 use native.Mathlib.Nat.{zero-lt-suc, mod-eq-of-lt}
 use native.Mathlib.Decide.{decLt}
@@ -9,15 +10,17 @@ use native.Mathlib.Omega.{arith}
 use lib.IntN.{ℤ, pos, negsuc, _+ℤ_, _-ℤ_, subℕ, +ℤ-comm, -ℤ-+ℤ-cancel}
 use lib.Dec.{ltb, eqb}
 use lib.Signed.{mag}
-use lib.ListN.{length, take, drop}
-use lib.Seq.{take-at, drop-at, drop-drop, drop-append-seam}
+use lib.ListN.{length, take}
+use lib.Seq.{take-at}
 use borrow.Author.Tests.{lt-ltb, le-ltb}
-use Rattle.format.specs.Outcome.{ok}
 use Rattle.format.specs.Digits.{ofDigits}
-use Rattle.format.specs.Keys.{residue, asSigned, gap, delta, wrappingAdd, keyBytes, keyAt, zigzag, unzigzag}
-use Rattle.format.specs.Varint.{varintLen, varintBytes, readUvarint, uvarintAt}
-use Rattle.format.proofs.numbers.Digits.{Below, length-digits, ofDigits-digits}
-use Rattle.format.proofs.numbers.Uvarints.{readAs, below-digits, length-uvarintBytes, below-uvarintBytes, readUvarint-back, uvarintAt-back, drop-varint}
+use Rattle.format.proofs.numbers.Occurs.{Occurs}
+use Rattle.format.specs.Keys.{residue, asSigned, gap, delta, wrappingAdd, keyBytes, keyAt, zigzag, unzigzag, Key}
+use Rattle.format.specs.Varint.{varintLen, varintBytes}
+use Rattle.format.proofs.numbers.All.{Below}
+use Rattle.format.proofs.numbers.Digits.{length-digits, ofDigits-digits, below-digits}
+use Rattle.format.proofs.numbers.Uvarints.{length-uvarintBytes}
+use Rattle.format.proofs.numbers.Widths.{uvarintLen-le}
 
 -- ---- residues
 
@@ -27,7 +30,7 @@ residue-lt (pos n) = omega arith
 residue-lt (negsuc n) = omega arith
 
 -- a key's residue, read as signed, is the key
-pub asSigned-residue : (v : ℤ) → mag v < 2 ^ 63 → asSigned (residue v) ≡ v
+pub asSigned-residue : (v : ℤ) → Key v → asSigned (residue v) ≡ v
 unfolding asSigned
 asSigned-residue (pos n) h =
     let e : n % 2 ^ 64 ≡ n = omega arith in rw (e, lt-ltb n (2 ^ 63) h)
@@ -47,7 +50,7 @@ residue-asSigned n h = go (decLt n (2 ^ 63))
     go (no k) = let l : 2 ^ 63 ≤ n = omega arith in rw (le-ltb n (2 ^ 63) l) (omega arith)
 
 -- a number below 2^64 read as signed is a key
-pub asSigned-key : (n : ℕ) → n < 2 ^ 64 → mag (asSigned n) < 2 ^ 63
+pub asSigned-key : (n : ℕ) → n < 2 ^ 64 → Key (asSigned n)
 unfolding asSigned
 asSigned-key n h = go (decLt n (2 ^ 63))
   where
@@ -77,12 +80,12 @@ unfolding gap
 gap-lt a b = residue-lt (b -ℤ a)
 
 -- a delta is a key
-pub delta-key : (a b : ℤ) → mag (delta a b) < 2 ^ 63
+pub delta-key : (a b : ℤ) → Key (delta a b)
 unfolding delta
 delta-key a b = asSigned-key (gap a b) (gap-lt a b)
 
 -- a sum that wraps is a key
-pub wrappingAdd-key : (a b : ℤ) → mag (wrappingAdd a b) < 2 ^ 63
+pub wrappingAdd-key : (a b : ℤ) → Key (wrappingAdd a b)
 unfolding wrappingAdd
 wrappingAdd-key a b = asSigned-key (residue (a +ℤ b)) (residue-lt (a +ℤ b))
 
@@ -92,17 +95,17 @@ unfolding wrappingAdd
 wrappingAdd-residue a b c e = ap asSigned (residue-add a b ∙ ap (λ (n : ℕ). (residue a + n) % 2 ^ 64) e ∙ sym (residue-add a c))
 
 -- from a by the difference to b
-wrappingAdd-back : (a b : ℤ) → mag b < 2 ^ 63 → wrappingAdd a (b -ℤ a) ≡ b
+wrappingAdd-back : (a b : ℤ) → Key b → wrappingAdd a (b -ℤ a) ≡ b
 unfolding wrappingAdd
 wrappingAdd-back a b h = ap (λ (z : ℤ). asSigned (residue z)) (+ℤ-comm a (b -ℤ a) ∙ -ℤ-+ℤ-cancel b a) ∙ asSigned-residue b h
 
 -- from a by the gap to b (with a the least: a difference packed)
-pub wrappingAdd-gap : (a b : ℤ) → mag b < 2 ^ 63 → wrappingAdd a (pos (gap a b)) ≡ b
+pub wrappingAdd-gap : (a b : ℤ) → Key b → wrappingAdd a (pos (gap a b)) ≡ b
 unfolding gap
 wrappingAdd-gap a b h = wrappingAdd-residue a (pos (gap a b)) (b -ℤ a) (mod-eq-of-lt (residue-lt (b -ℤ a))) ∙ wrappingAdd-back a b h
 
 -- from a by the delta to b
-pub wrappingAdd-delta : (a b : ℤ) → mag b < 2 ^ 63 → wrappingAdd a (delta a b) ≡ b
+pub wrappingAdd-delta : (a b : ℤ) → Key b → wrappingAdd a (delta a b) ≡ b
 unfolding gap delta
 wrappingAdd-delta a b h = wrappingAdd-residue a (delta a b) (b -ℤ a) (residue-asSigned (gap a b) (residue-lt (b -ℤ a))) ∙ wrappingAdd-back a b h
 
@@ -118,21 +121,14 @@ pub below-keyBytes : (v : ℤ) → Below 256 (keyBytes v)
 unfolding keyBytes
 below-keyBytes v = below-digits 256 8 (residue v) (zero-lt-suc 255)
 
--- READ BACK: where a key's bytes stand, the key is read
-pub keyAt-back : (s : List ℕ) (at : ℕ) (v : ℤ) (rest : List ℕ) → mag v < 2 ^ 63 → drop at s ≡ keyBytes v ++ rest → keyAt s at ≡ v
+-- READ BACK: where a key's bytes were written, the key is read
+pub keyAt-back : {s : List ℕ} {at : ℕ} (v : ℤ) → Key v → Occurs s at (keyBytes v) → keyAt s at ≡ v
 unfolding keyAt keyBytes
-keyAt-back s at v rest h e =
-    ap (λ (l : List ℕ). asSigned (ofDigits 256 (take 8 l))) e
-    ∙ ap (λ (l : List ℕ). asSigned (ofDigits 256 l)) (take-at (keyBytes v) rest 8 (length-keyBytes v))
+keyAt-back v h o =
+    ap (λ (l : List ℕ). asSigned (ofDigits 256 (take 8 l))) (o .here)
+    ∙ ap (λ (l : List ℕ). asSigned (ofDigits 256 l)) (take-at (keyBytes v) (o .rest) 8 (length-keyBytes v))
     ∙ ap asSigned (ofDigits-digits 256 8 (residue v) (zero-lt-suc 255) ∙ mod-eq-of-lt (residue-lt v))
     ∙ asSigned-residue v h
-
-pub keyAt-append : (pre : List ℕ) (v : ℤ) (rest : List ℕ) → mag v < 2 ^ 63 → keyAt (pre ++ (keyBytes v ++ rest)) (length pre) ≡ v
-keyAt-append pre v rest h = keyAt-back (pre ++ (keyBytes v ++ rest)) (length pre) v rest h (drop-append-seam pre (keyBytes v ++ rest))
-
--- what stands behind them
-pub drop-keyBytes : (s : List ℕ) (at : ℕ) (v : ℤ) (rest : List ℕ) → drop at s ≡ keyBytes v ++ rest → drop (at + 8) s ≡ rest
-drop-keyBytes s at v rest e = sym (drop-drop 8 at s) ∙ ap (drop 8) e ∙ drop-at (keyBytes v) rest 8 (length-keyBytes v)
 
 -- ---- ZigZag
 
@@ -144,12 +140,12 @@ unzigzag-zigzag (negsuc n) =
     let p : (2 * n + 1) % 2 ≡ 1 = omega arith in let q : (2 * n + 1) / 2 ≡ n = omega arith in rw (p, q)
 
 -- a key's ZigZag is below 2^64
-pub zigzag-lt : (v : ℤ) → mag v < 2 ^ 63 → zigzag v < 2 ^ 64
+pub zigzag-lt : (v : ℤ) → Key v → zigzag v < 2 ^ 64
 zigzag-lt (pos n) h = omega arith
 zigzag-lt (negsuc n) h = omega arith
 
 -- a ZigZag below 2^64 is a key's
-pub unzigzag-key : (n : ℕ) → n < 2 ^ 64 → mag (unzigzag n) < 2 ^ 63
+pub unzigzag-key : (n : ℕ) → n < 2 ^ 64 → Key (unzigzag n)
 unfolding unzigzag
 unzigzag-key n h = go (eqb (n % 2) 0)
   where
@@ -157,36 +153,14 @@ unzigzag-key n h = go (eqb (n % 2) 0)
     go true = omega arith
     go false = omega arith
 
--- signed varints
+-- ---- signed varints
+
+-- a signed varint has the length of its key
 pub length-varintBytes : (v : ℤ) → length (varintBytes v) ≡ varintLen v
 unfolding varintBytes varintLen
 length-varintBytes v = length-uvarintBytes (zigzag v)
 
-pub below-varintBytes : (v : ℤ) → Below 256 (varintBytes v)
-unfolding varintBytes
-below-varintBytes v = below-uvarintBytes (zigzag v)
-
--- READ BACK: where a key's signed varint was written, its ZigZag is read
-pub readSigned-back : (s : List ℕ) (at : ℕ) (v : ℤ) (rest : List ℕ) → mag v < 2 ^ 63 → drop at s ≡ varintBytes v ++ rest
-    → readUvarint s at ≡ ok (readAs (zigzag v) (at + varintLen v))
-unfolding varintBytes varintLen
-readSigned-back s at v rest h e = readUvarint-back s at (zigzag v) rest (zigzag-lt v h) e
-
-pub signedAt-back : (s : List ℕ) (at : ℕ) (v : ℤ) (rest : List ℕ) → mag v < 2 ^ 63 → drop at s ≡ varintBytes v ++ rest
-    → uvarintAt s at ≡ readAs (zigzag v) (at + varintLen v)
-unfolding varintBytes varintLen
-signedAt-back s at v rest h e = uvarintAt-back s at (zigzag v) rest (zigzag-lt v h) e
-
--- the same behind some bytes
-pub readSigned-append : (pre : List ℕ) (v : ℤ) (rest : List ℕ) → mag v < 2 ^ 63
-    → readUvarint (pre ++ (varintBytes v ++ rest)) (length pre) ≡ ok (readAs (zigzag v) (length pre + varintLen v))
-readSigned-append pre v rest h = readSigned-back (pre ++ (varintBytes v ++ rest)) (length pre) v rest h (drop-append-seam pre (varintBytes v ++ rest))
-
-pub signedAt-append : (pre : List ℕ) (v : ℤ) (rest : List ℕ) → mag v < 2 ^ 63
-    → uvarintAt (pre ++ (varintBytes v ++ rest)) (length pre) ≡ readAs (zigzag v) (length pre + varintLen v)
-signedAt-append pre v rest h = signedAt-back (pre ++ (varintBytes v ++ rest)) (length pre) v rest h (drop-append-seam pre (varintBytes v ++ rest))
-
--- what stands behind it
-pub drop-asSigned : (s : List ℕ) (at : ℕ) (v : ℤ) (rest : List ℕ) → drop at s ≡ varintBytes v ++ rest → drop (at + varintLen v) s ≡ rest
-unfolding varintBytes varintLen
-drop-asSigned s at v rest e = drop-varint s at (zigzag v) rest e
+-- ten bytes at most
+pub varintLen-le : (v : ℤ) → varintLen v ≤ 10
+unfolding varintLen
+varintLen-le v = uvarintLen-le (zigzag v)

@@ -1,16 +1,17 @@
--- The order of keys, and gaps, ZigZags and signed varints' lengths along it. Assumes nothing.
+-- The order of keys, and gaps, ZigZags and signed varints' lengths along it. A key's height above the least key, a natural number, has the same order and the
+-- same differences, so what is claimed of gaps is arithmetic of heights.
 use mathlib.Core.Path.{_≡_, refl, sym, ap, _∙_, subst}
 use mathlib.Core.Bool.{Bool, true, false, cond}
 use mathlib.Core.Logic.{_⊎_, inl, inr}
 use Prim.Native.Nat.{ℕ, suc, _+_, _-_, _*_, _%_, _^_, _≤_, _<_, max}
-use native.Mathlib.Nat.{le-trans, le-antisymm, le-of-lt, le-max-left, le-max-right}
+use native.Mathlib.Nat.{le-trans, le-antisymm, le-of-lt, le-max-left, le-max-right, le-refl}
 use native.Mathlib.Decide.{decLe}
 use native.Mathlib.Omega.{arith}
-use borrow.Author.Tests.{lt-ltb, le-ltb}
+use borrow.Author.Tests.{lt-ltb, le-ltb, ltb-true, eqb-true}
 use lib.IntN.{ℤ, pos, negsuc, _+ℤ_, _-ℤ_, -ℤ-+ℤ-cancel}
 use lib.Dec.{T, leb→le, le→leb, ltb→lt}
-use lib.Signed.{mag, ltZ, leZ, _≤ℤ_, ltZ-no, ≤ℤ-refl}
-use Rattle.format.specs.Keys.{residue, gap, zigzag, lesser, greater}
+use lib.Signed.{ltZ, leZ, _≤ℤ_, ltZ-no, ≤ℤ-refl}
+use Rattle.format.specs.Keys.{residue, gap, zigzag, lesser, greater, Key, eqZ}
 use Rattle.format.specs.Varint.{uvarintLen, varintLen}
 use Rattle.format.proofs.numbers.Widths.{uvarintLen-mono}
 use Rattle.format.proofs.numbers.Keys.{residue-lt, residue-add, gap-lt, zigzag-lt}
@@ -64,6 +65,33 @@ pub ≤ℤ-total : (a b : ℤ) → (a ≤ℤ b) ⊎ (b ≤ℤ a)
     go : (t : Bool) → ltZ a b ≡ t → (a ≤ℤ b) ⊎ (b ≤ℤ a)
     go true e = inl (ltZ-le a b e)
     go false e = inr (ltZ-not a b e)
+
+-- no key is less than itself
+pub ltZ-self : (a : ℤ) → ltZ a a ≡ false
+ltZ-self (pos a) = le-ltb a a (le-refl a)
+ltZ-self (negsuc a) = le-ltb a a (le-refl a)
+
+-- less than a lesser
+pub ltZ-trans : (a b c : ℤ) → ltZ a b ≡ true → ltZ b c ≡ true → ltZ a c ≡ true
+ltZ-trans (pos a) (pos b) (pos c) h k = lt-ltb a c (omega (arith, ltb-true a b h, ltb-true b c k))
+ltZ-trans (pos a) (pos b) (negsuc c) h k = k
+ltZ-trans (pos a) (negsuc b) (pos c) h k = cc
+ltZ-trans (pos a) (negsuc b) (negsuc c) h k = h
+ltZ-trans (negsuc a) (pos b) (pos c) h k = refl
+ltZ-trans (negsuc a) (pos b) (negsuc c) h k = cc
+ltZ-trans (negsuc a) (negsuc b) (pos c) h k = refl
+ltZ-trans (negsuc a) (negsuc b) (negsuc c) h k = lt-ltb c a (omega (arith, ltb-true b a h, ltb-true c b k))
+
+-- neither is less: the same
+pub ltZ-neither : (a b : ℤ) → ltZ a b ≡ false → ltZ b a ≡ false → a ≡ b
+ltZ-neither a b h k = ≤ℤ-antisymm a b (ltZ-not b a k) (ltZ-not a b h)
+
+-- keys that the test finds the same are the same
+pub eqZ-true : (a b : ℤ) → eqZ a b ≡ true → a ≡ b
+eqZ-true (pos a) (pos b) e = ap pos (eqb-true a b e)
+eqZ-true (pos a) (negsuc b) e = cc
+eqZ-true (negsuc a) (pos b) e = cc
+eqZ-true (negsuc a) (negsuc b) e = ap negsuc (eqb-true a b e)
 
 -- ---- the lesser and the greater of two
 
@@ -132,7 +160,7 @@ height-mono (pos a) (negsuc b) h = absurd (h .le)
 height-mono (negsuc a) (pos b) h = omega arith
 height-mono (negsuc a) (negsuc b) h = let k = leb→le b a (h .le) in omega arith
 
-pub height-le : (a b : ℤ) → mag a < 2 ^ 63 → mag b < 2 ^ 63 → height a ≤ height b → a ≤ℤ b
+pub height-le : (a b : ℤ) → Key a → Key b → height a ≤ height b → a ≤ℤ b
 unfolding height
 height-le (pos a) (pos b) ka kb h = record { le = le→leb a b (omega arith) }
 height-le (pos a) (negsuc b) ka kb h = absurd (omega arith)
@@ -140,13 +168,13 @@ height-le (negsuc a) (pos b) ka kb h = record { le = tt }
 height-le (negsuc a) (negsuc b) ka kb h = record { le = le→leb b a (omega arith) }
 
 -- a key's height is below 2^64
-pub height-lt : (a : ℤ) → mag a < 2 ^ 63 → height a < 2 ^ 64
+pub height-lt : (a : ℤ) → Key a → height a < 2 ^ 64
 unfolding height
 height-lt (pos n) h = omega arith
 height-lt (negsuc n) h = omega arith
 
 -- a key's height against its residue
-height-residue : (a : ℤ) → mag a < 2 ^ 63 → (residue a + 2 ^ 63) % 2 ^ 64 ≡ height a
+height-residue : (a : ℤ) → Key a → (residue a + 2 ^ 63) % 2 ^ 64 ≡ height a
 unfolding height
 height-residue (pos n) h = omega arith
 height-residue (negsuc n) h = omega arith
@@ -157,12 +185,12 @@ unfolding gap
 gap-add a b = sym (residue-add (b -ℤ a) a) ∙ ap residue (-ℤ-+ℤ-cancel b a)
 
 -- for keys a ≤ b the gap is the natural difference
-pub gap-is : (a b : ℤ) → mag a < 2 ^ 63 → mag b < 2 ^ 63 → a ≤ℤ b → height a + gap a b ≡ height b
+pub gap-is : (a b : ℤ) → Key a → Key b → a ≤ℤ b → height a + gap a b ≡ height b
 gap-is a b ka kb h =
     omega (arith, gap-add a b, gap-lt a b, height-residue a ka, height-residue b kb, height-mono a b h, residue-lt a, residue-lt b, height-lt a ka, height-lt b kb)
 
 -- a step up from a key, by heights
-add-height : (a b : ℤ) (g : ℕ) → mag a < 2 ^ 63 → mag b < 2 ^ 63 → height a + g ≡ height b → a +ℤ pos g ≡ b
+add-height : (a b : ℤ) (g : ℕ) → Key a → Key b → height a + g ≡ height b → a +ℤ pos g ≡ b
 unfolding height
 add-height (pos a) (pos b) g ka kb e = ap pos (omega arith)
 add-height (pos a) (negsuc b) g ka kb e = absurd (omega arith)
@@ -172,14 +200,14 @@ add-height (negsuc a) (negsuc b) g ka kb e =
     let k : g < suc a = omega arith in let d : suc a - suc g ≡ b = omega arith in rw (lt-ltb g (suc a) k, d)
 
 -- which is to say: a and the gap make b, with no wrapping
-pub add-gap : (a b : ℤ) → mag a < 2 ^ 63 → mag b < 2 ^ 63 → a ≤ℤ b → a +ℤ pos (gap a b) ≡ b
+pub add-gap : (a b : ℤ) → Key a → Key b → a ≤ℤ b → a +ℤ pos (gap a b) ≡ b
 add-gap a b ka kb h = add-height a b (gap a b) ka kb (gap-is a b ka kb h)
 
 -- the gap to itself
-pub gap-self : (a : ℤ) → mag a < 2 ^ 63 → gap a a ≡ 0
+pub gap-self : (a : ℤ) → Key a → gap a a ≡ 0
 gap-self a k = omega (arith, gap-is a a k k (≤ℤ-refl a))
 
-module _ (a b c : ℤ) (ka : mag a < 2 ^ 63) (kb : mag b < 2 ^ 63) (kc : mag c < 2 ^ 63) (h : a ≤ℤ b) (k : b ≤ℤ c) where
+module _ (a b c : ℤ) (ka : Key a) (kb : Key b) (kc : Key c) (h : a ≤ℤ b) (k : b ≤ℤ c) where
   -- gaps add up
   pub gap-sum : gap a b + gap b c ≡ gap a c
   gap-sum = omega (arith, gap-is a b ka kb h, gap-is b c kb kc k, gap-is a c ka kc (≤ℤ-trans h k))
@@ -192,7 +220,7 @@ module _ (a b c : ℤ) (ka : mag a < 2 ^ 63) (kb : mag b < 2 ^ 63) (kc : mag c <
   gap-lower = omega (arith, gap-sum)
 
 -- a gap inside another: lo ≤ a ≤ b ≤ hi
-pub gap-inside : (lo a b hi : ℤ) → mag lo < 2 ^ 63 → mag a < 2 ^ 63 → mag b < 2 ^ 63 → mag hi < 2 ^ 63 → lo ≤ℤ a → a ≤ℤ b → b ≤ℤ hi → gap a b ≤ gap lo hi
+pub gap-inside : (lo a b hi : ℤ) → Key lo → Key a → Key b → Key hi → lo ≤ℤ a → a ≤ℤ b → b ≤ℤ hi → gap a b ≤ gap lo hi
 gap-inside lo a b hi kl ka kb kh p q r = le-trans (gap-upper a b hi ka kb kh q r) (gap-lower lo a hi kl ka kh p (≤ℤ-trans q r))
 
 -- ---- ZigZags
@@ -213,13 +241,13 @@ max-mono f m g x y z p q h = go (decLe y z)
     go (no k) = let l : x ≤ y = omega arith in le-trans (g x y l p) (le-max-left (f y) (f z))
 
 -- between two keys no signed varint is longer than the longer of theirs
-pub varintLen-between : (lo d hi : ℤ) → mag lo < 2 ^ 63 → mag hi < 2 ^ 63 → lo ≤ℤ d → d ≤ℤ hi → varintLen d ≤ max (varintLen lo) (varintLen hi)
+pub varintLen-between : (lo d hi : ℤ) → Key lo → Key hi → lo ≤ℤ d → d ≤ℤ hi → varintLen d ≤ max (varintLen lo) (varintLen hi)
 unfolding varintLen
 varintLen-between lo d hi kl kh h k =
     max-mono uvarintLen (2 ^ 64) uvarintLen-mono (zigzag d) (zigzag lo) (zigzag hi) (zigzag-lt lo kl) (zigzag-lt hi kh) (zigzag-between lo d hi h k)
 
 -- what stands between two keys is a key
-pub key-between : (lo d hi : ℤ) → mag lo < 2 ^ 63 → mag hi < 2 ^ 63 → lo ≤ℤ d → d ≤ℤ hi → mag d < 2 ^ 63
+pub key-between : (lo d hi : ℤ) → Key lo → Key hi → lo ≤ℤ d → d ≤ℤ hi → Key d
 key-between lo (pos d) (pos b) kl kh h k = let l = leb→le d b (k .le) in omega arith
 key-between lo (pos d) (negsuc b) kl kh h k = absurd (k .le)
 key-between (pos a) (negsuc d) hi kl kh h k = absurd (h .le)

@@ -10,7 +10,8 @@ use lib.ListN.{length, length-map}
 use lib.Pow.{pow-pos, pow-add}
 use Rattle.format.specs.Digits.{ofDigits, digits}
 use Rattle.format.specs.Packing.{packedLen, packed, unpacked}
-use Rattle.format.proofs.numbers.Digits.{Below, length-digits, ofDigits-append, digits-ofDigits, ofDigits-digits, digits-ignore, ofDigits-lt, below-map}
+use Rattle.format.proofs.numbers.All.{Below}
+use Rattle.format.proofs.numbers.Digits.{length-digits, ofDigits-append, digits-ofDigits, ofDigits-digits, digits-ignore, ofDigits-lt, below-map}
 
 -- ---- lengths
 

@@ -1,4 +1,5 @@
--- Laws of a number's width and of its varint's length. Assumes nothing.
+-- A number's width is its length in binary digits, the least that holds it, and its varint has a group for every seven of them. Both come from the library's law of
+-- leading zeros: the width holds the number, and 2 to the width is at most twice the number and 1.
 use mathlib.Core.Path.{_≡_, refl, sym, ap, _∙_}
 use Prim.Native.Nat.{ℕ, zero, suc, _+_, _-_, _*_, _^_, _≤_, _<_}
 use native.Mathlib.Nat.{suc-mul, pow-suc, lt-of-le-of-lt, lt-of-lt-of-le, lt-of-not-le}
@@ -20,8 +21,8 @@ width-length x h =
 pub width-lt : (x : ℕ) → x < 2 ^ 64 → x < 2 ^ width x
 width-lt x h = width-length x h .0
 
-pub width-unpadded : (x : ℕ) → x < 2 ^ 64 → 2 ^ width x ≤ 2 * x + 1
-width-unpadded x h = width-length x h .1
+pub width-tight : (x : ℕ) → x < 2 ^ 64 → 2 ^ width x ≤ 2 * x + 1
+width-tight x h = width-length x h .1
 
 -- 64 at most
 pub width-le : (x : ℕ) → width x ≤ 64
@@ -38,7 +39,7 @@ width-least x w h = go (decLe (width x) w)
         let l : suc w ≤ width x = omega arith in
         let m : w ≤ 64 = omega (arith, width-le x) in
         let p : 2 ^ w * 2 ≤ 2 ^ width x = rw (pow-suc 2 w) at (pow-mono l) in
-        absurd (omega (arith, width-unpadded x (lt-of-lt-of-le h (pow-mono m))))
+        absurd (omega (arith, width-tight x (lt-of-lt-of-le h (pow-mono m))))
 
 -- monotone, below 2^64
 pub width-mono : (x y : ℕ) → x ≤ y → y < 2 ^ 64 → width x ≤ width y
@@ -88,8 +89,8 @@ unfolding uvarintLen
 uvarintLen-least x n p h = let k : x < 2 ^ (n * 7) = rw (pow-128 n) at h in omega (arith, width-least x (n * 7) k)
 
 -- a number of n + 2 groups is not held by n + 1
-pub uvarintLen-unpadded : (x n : ℕ) → uvarintLen x ≡ suc (suc n) → 128 ^ suc n ≤ x
-uvarintLen-unpadded x n e = go (decLe (128 ^ suc n) x)
+pub uvarintLen-tight : (x n : ℕ) → uvarintLen x ≡ suc (suc n) → 128 ^ suc n ≤ x
+uvarintLen-tight x n e = go (decLe (128 ^ suc n) x)
   where
     go : Dec (128 ^ suc n ≤ x) → 128 ^ suc n ≤ x
     go (yes k) = k

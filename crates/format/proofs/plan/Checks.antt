@@ -2,7 +2,6 @@
 -- as long as the chunk. Each question's test holds by its hypothesis; Dictionary's last one, at most 16,384 distinct values, by the encoding being available.
 use mathlib.Core.Path.{_≡_, refl, ap, subst}
 use Prim.Native.Nat.{ℕ, _≤_}
-use native.Mathlib.Nat.{le-trans}
 use native.Mathlib.Omega.{arith}
 use mathlib.Core.Bool.{Bool, true, false, not}
 use mathlib.Core.List.{List}
@@ -13,17 +12,17 @@ use lib.Seq.{take-append-seam}
 use Rattle.format.specs.Outcome.{Outcome, ok, check}
 use Rattle.format.specs.Encodings.{idOf, maxChunkElements}
 use Rattle.format.specs.Answers.{stored, storedAnswer, bufferAfter}
-use Rattle.format.specs.Distinct.{tooManyDistinct, cappedDistinct, scratchCheck, scratchNeeded, collected}
+use Rattle.format.specs.Distinct.{tooManyDistinct, cappedDistinct, scratchCheck, scratchNeeded}
 use Rattle.format.specs.Chunk.{chunkOf}
 use Rattle.format.specs.Statistics.{analysisChecks}
 use Rattle.format.specs.Estimates.{estimatesOf, availableIn}
 use Rattle.format.specs.Write.{forDictionary, writeChecks, writeOutcome, writeAnswer, writeOutput}
-use Rattle.format.specs.Plan.{planOf, planChecks, planAnswer, planScratch}
+use Rattle.format.specs.Plan.{planOf, planChecks, planAnswer}
 use Rattle.format.specs.ThirdDemand.{chunkStored}
 use Rattle.format.specs.declared.Encoding.{Encoding}
 use Rattle.format.specs.declared.Encoding.the-variants.{Plain, Varint, BitPacked, FrameOfReference, RunLength, Dictionary, DeltaBinaryPacked}
 use Rattle.format.specs.declared.Answer.the-variants.{Accepted}
-use Rattle.format.proofs.numbers.Distinct.{cappedDistinct-most, tooManyDistinct-of-few}
+use Rattle.format.proofs.numbers.Distinct.{not-tooManyDistinct}
 use Rattle.format.proofs.codecs.Encodings.{encodingOf-id, id-within}
 use Rattle.format.proofs.lengths.Estimates.{dictionary-few}
 
@@ -63,15 +62,6 @@ module _ (level : ℕ) (column : List ℤ) (room : ℕ)
   unfolding planAnswer
   planAnswer-accepted = rw planChecks-ok
 
--- planning stores the distinct values that it met, for which there is room, so the scratch keeps its length
-pub length-planScratch :
-    (level : ℕ) (column scratch : List ℤ) → level ≤ 9 → length column ≤ maxChunkElements → scratchNeeded column ≤ length scratch
-    → length (planScratch level column scratch) ≡ length scratch
-unfolding planScratch collected
-length-planScratch level column scratch level-most size enough =
-    rw (planChecks-ok level column (length scratch) level-most size enough)
-    (length-stored (cappedDistinct column) scratch (le-trans (cappedDistinct-most column) enough))
-
 -- ---- writing
 
 -- what is asked for Dictionary alone is passed, if it is for Dictionary
@@ -109,7 +99,7 @@ module _ (e : Encoding) (column : List ℤ) (room : ℕ) (size : length column �
 -- where Dictionary is available there are at most 16,384 distinct values
 available-few : (column : List ℤ) (e : Encoding) → availableIn (estimatesOf column) e ≡ true → e ≡ Dictionary → tooManyDistinct column ≡ false
 available-few column e there p =
-    tooManyDistinct-of-few column (dictionary-few column (subst (λ (x : Encoding). availableIn (estimatesOf column) x ≡ true) p there))
+    not-tooManyDistinct column (dictionary-few column (subst (λ (x : Encoding). availableIn (estimatesOf column) x ≡ true) p there))
 
 -- an available encoding is written, where enough is lent: the answer is accepted,
 pub writeAnswer-accepted :

@@ -1,8 +1,6 @@
--- The third demand where one scratch serves for planning and then for writing: planning stores the distinct values at the scratch's front and so leaves its
--- length as it was, and the demand asks nothing else of the scratch that writing gets.
-use mathlib.Core.Path.{_≡_, sym}
+-- The third demand where one scratch serves for planning and then for writing: no call changes the length of a scratch (Buffers), and the demand asks nothing
+-- else of the one that writing gets.
 use Prim.Native.Nat.{ℕ, _≤_}
-use native.Mathlib.Nat.{le-trans, le-of-eq}
 use mathlib.Core.List.{List}
 use lib.IntN.{ℤ}
 use lib.ListN.{length}
@@ -11,7 +9,7 @@ use Rattle.format.specs.Distinct.{scratchNeeded}
 use Rattle.format.specs.Plan.{planOf, planScratch}
 use Rattle.format.specs.Keys.{Keys}
 use Rattle.format.specs.ThirdDemand.{RoundTrip}
-use Rattle.format.proofs.plan.Checks.{length-planScratch}
+use Rattle.format.proofs.third.Buffers.{length-planScratch}
 use Rattle.format.proofs.third.ThirdDemand.{third}
 
 -- the third demand, with the scratch that planning left lent on to writing
@@ -22,6 +20,5 @@ pub third-one-scratch :
     → (buffer : List ℤ) → length column ≤ length buffer
     → RoundTrip column level lent (planOf level column) (planScratch level column lent) output buffer
 third-one-scratch column keys size level level-most lent lent-room output output-room buffer buffer-room =
-    let same : length (planScratch level column lent) ≡ length lent = length-planScratch level column lent level-most size lent-room in
-    third .holds column keys size level level-most lent lent-room
-    (planScratch level column lent) (le-trans lent-room (le-of-eq (sym same))) output output-room buffer buffer-room
+    let room : scratchNeeded column ≤ length (planScratch level column lent) = rw (length-planScratch column lent level) lent-room in
+    third .holds column keys size level level-most lent lent-room (planScratch level column lent) room output output-room buffer buffer-room

@@ -1,4 +1,5 @@
--- Where bytes stand in a chunk: the parts of a body are read at their places, whatever comes before and after.
+-- Bytes that occur at a place of a chunk. Reading a layout goes from part to part, so every law "what was written is read back" takes the written bytes where they
+-- occur, whatever comes before and after; the laws here give the place of each part of a layout from that of the whole.
 use mathlib.Core.Path.{_≡_, sym, ap, _∙_}
 use Prim.Native.Nat.{ℕ, _+_, _-_, _≤_}
 use native.Mathlib.Nat.{add-zero}
@@ -7,12 +8,12 @@ use mathlib.Core.List.{List, [], _∷_, _++_, append-assoc}
 use lib.ListN.{length, getD, drop, length-append, length-drop}
 use lib.Seq.{drop-append-seam, drop-drop, getD-drop}
 
--- the bytes `part` stand at the place `at` of s
+-- the bytes `part` occur at the place `at` of s
 pub record Occurs (s : List ℕ) (at : ℕ) (part : List ℕ) : Type 0 where
   pub rest : List ℕ
   pub here : drop at s ≡ part ++ rest
 
--- the middle of three parts stands after the first
+-- the middle of three parts occurs after the first
 pub occurs-middle : (pre part rest : List ℕ) → Occurs (pre ++ (part ++ rest)) (length pre) part
 occurs-middle pre part rest = record { rest = rest; here = drop-append-seam pre (part ++ rest) }
 
@@ -20,7 +21,7 @@ occurs-middle pre part rest = record { rest = rest; here = drop-append-seam pre 
 pub occurs-first : {s : List ℕ} {at : ℕ} (a b : List ℕ) → Occurs s at (a ++ b) → Occurs s at a
 occurs-first a b h = record { rest = b ++ h .rest; here = h .here ∙ append-assoc a b (h .rest) }
 
--- the second of two parts stands after the first
+-- the second of two parts occurs after the first
 pub occurs-next : {s : List ℕ} {at : ℕ} (a b : List ℕ) → Occurs s at (a ++ b) → Occurs s (at + length a) b
 occurs-next {s} {at} a b h =
     record {

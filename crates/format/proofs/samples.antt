@@ -1,0 +1,4 @@
+pub mod Computing
+pub mod Stars
+pub mod Refusals
+pub mod Worked

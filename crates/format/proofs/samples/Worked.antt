@@ -1,0 +1,162 @@
+-- 01's numbers, computed: the tables of ids and ranks, the limits, the levels' gains, the empty column and one value, what calls store, and the sample sheet's
+-- entries without a ★ that speak of definitions alone: `worked`. So a change of one of these numbers in specs/ is refused by the checker.
+use mathlib.Core.Path.{_≡_, refl}
+use mathlib.Core.Bool.{true, false}
+use mathlib.Core.List.{List, [], _∷_, map}
+use Prim.Native.Nat.{ℕ, zero, suc, _^_, _-_, _≤_}
+use lib.IntN.{ℤ, pos, negsuc}
+use lib.ListN.{length}
+use borrow.Author.Tests.{lt-ltb}
+use Rattle.format.specs.Outcome.{ok}
+use Rattle.format.specs.Keys.{zigzag}
+use Rattle.format.specs.Width.{width}
+use Rattle.format.specs.Varint.{readUvarint}
+use Rattle.format.specs.Encodings.{idOf, encodings, decodeCostRank, maxDictionaryCardinality}
+use Rattle.format.specs.Header.{unnamed}
+use Rattle.format.specs.Distinct.{distinct, tooManyDistinct}
+use Rattle.format.specs.Chunk.{chunkOf}
+use Rattle.format.specs.Read.{readAnswer, readColumn}
+use Rattle.format.specs.Write.{writeOutput, writeScratch}
+use Rattle.format.specs.Standalone.{packOutput, unpackBuffer, uvarintWriteOutput}
+use Rattle.format.specs.Statistics.{cardinalityOf, statsOf, refusedStats, statsAnswer, analysisScratch, distinctValuesPart}
+use Rattle.format.specs.Estimates.{estimatesOf, lengthIn}
+use Rattle.format.specs.Plan.{asFloat, meetsGain, planOf, planScratch}
+use Rattle.format.specs.declared.Cardinality.the-variants.{Exact, AtLeast}
+use Rattle.format.specs.declared.Sortedness.the-variants.{Constant, Ascending, Descending, Unsorted}
+use Rattle.format.specs.declared.PlanReason.the-variants.{Empty, CompressionDisabled}
+use Rattle.format.specs.declared.Answer.the-variants.{Accepted}
+use Rattle.format.specs.declared.Encoding.the-variants.{Plain, FrameOfReference, DeltaBinaryPacked}
+use Rattle.format.proofs.samples.Computing.{reading-computes, planning-computes, standalone-computes}
+use Rattle.format.proofs.samples.Stars.{fives, ends}
+
+-- a number of zeros, then what follows
+unfoldable pub zerosThen : ℕ → List ℤ → List ℤ
+zerosThen zero rest = rest
+zerosThen (suc n) rest = pos 0 ∷ zerosThen n rest
+
+-- 129 zeros, then 1000
+abbrev pub jump : List ℤ
+jump = zerosThen 129 (pos 1000 ∷ [])
+
+pub record Worked : Type 0 where
+  -- the ids, "1. Plain .. 7. DeltaBinaryPacked", and the Rust's `decode_cost_rank`
+  pub ids : map idOf encodings ≡ 1 ∷ 2 ∷ 3 ∷ 4 ∷ 5 ∷ 6 ∷ 7 ∷ []
+  pub ranks : map decodeCostRank encodings ≡ 0 ∷ 5 ∷ 1 ∷ 1 ∷ 4 ∷ 3 ∷ 2 ∷ []
+  -- "The smallest key gives 2^64 − 1."
+  pub least-zigzag : map zigzag ends ≡ (2 ^ 64 - 1) ∷ (2 ^ 64 - 2) ∷ []
+  -- "0 for 0, 64 at most"
+  pub widths : map width (0 ∷ 1 ∷ 255 ∷ 256 ∷ (2 ^ 64 - 1) ∷ []) ≡ 0 ∷ 1 ∷ 8 ∷ 9 ∷ 64 ∷ []
+  -- "longer forms up to ten bytes are read": 80 00 is 0, and padded
+  pub padded-zero : readUvarint (0x80 ∷ 0x00 ∷ []) 0 ≡ ok (record { value = 0; next = 2; unpadded = false })
+  -- "Above 16,384 distinct values the cardinality is AtLeast(16385)."
+  pub most-distinct : (column : List ℤ) → length (distinct column) ≡ 16384 → cardinalityOf column ≡ Exact 16384
+  pub over-distinct : (column : List ℤ) → 16385 ≤ length (distinct column) → cardinalityOf column ≡ AtLeast 16385
+  -- "the empty column has all zeros, Constant, Exact(0)"; as a refused record
+  pub empty-stats : statsOf [] ≡ refusedStats
+  -- "With one value the delta fields are 0."
+  pub one-value : (statsOf (negsuc 6 ∷ []) .«delta_min» ≡ pos 0) × (statsOf (negsuc 6 ∷ []) .«delta_max» ≡ pos 0) × (statsOf (negsuc 6 ∷ []) .«delta_span» ≡ 0)
+  -- the orders of a column
+  pub orders :
+      map (λ column. statsOf column .sortedness) (fives ∷ (pos 1 ∷ pos 1 ∷ pos 2 ∷ []) ∷ (pos 2 ∷ pos 1 ∷ pos 1 ∷ []) ∷ (pos 1 ∷ pos 2 ∷ pos 1 ∷ []) ∷ [])
+      ≡ Constant ∷ Ascending ∷ Descending ∷ Unsorted ∷ []
+  -- deltas wrap: from the least to the greatest key is −1, and back is 1
+  pub wrapped : (statsOf ends .«delta_min» ≡ negsuc 0) × (statsOf ends .«value_span» ≡ 2 ^ 64 - 1)
+  -- the empty column: lengths 3, 3, 4, 12, 4, 5, Delta unavailable; Plain, Empty at every level, density 0.0, ratio 1.0
+  pub empty-lengths : estimatesOf [] .lengths ≡ 3 ∷ 3 ∷ 4 ∷ 12 ∷ 4 ∷ 5 ∷ 0 ∷ []
+  pub empty-available : estimatesOf [] .available ≡ true ∷ true ∷ true ∷ true ∷ true ∷ true ∷ false ∷ []
+  pub empty-reasons : map (λ level. planOf level [] .reason) (0 ∷ 1 ∷ 9 ∷ []) ≡ Empty ∷ Empty ∷ Empty ∷ []
+  pub empty-density : planOf 6 [] .«run_density» ≡ asFloat 0
+  pub empty-ratio : planOf 6 [] .«estimated_ratio» ≡ asFloat 1
+  -- "Level 0, Plain, CompressionDisabled."
+  pub level-0 : (planOf 0 fives .encoding ≡ Plain) × (planOf 0 fives .reason ≡ CompressionDisabled)
+  -- "Gain is 0.20 at levels 1 to 3, 0.05 at 4 to 6, 0.01 above": of 100 bytes, 80, 95 and 99 are met, and 81, 96 and 100 are not
+  pub gains-met : meetsGain 1 100 80 ∷ meetsGain 3 100 80 ∷ meetsGain 4 100 95 ∷ meetsGain 6 100 95 ∷ meetsGain 7 100 99 ∷ meetsGain 9 100 99 ∷ [] ≡ true ∷ true ∷ true ∷ true ∷ true ∷ true ∷ []
+  pub gains-missed : meetsGain 1 100 81 ∷ meetsGain 3 100 81 ∷ meetsGain 4 100 96 ∷ meetsGain 6 100 96 ∷ meetsGain 7 100 100 ∷ meetsGain 9 100 100 ∷ [] ≡ false ∷ false ∷ false ∷ false ∷ false ∷ false ∷ []
+  -- "129 zeros, then 1000: Delta estimate 175, chunk 12."
+  pub jump-estimate : lengthIn (estimatesOf jump) DeltaBinaryPacked ≡ 175
+  pub jump-chunk : length (chunkOf DeltaBinaryPacked jump) ≡ 12
+  -- "Plain 1,060 at level 6: a best of 1,007 is kept, 1,008 is not."
+  pub sheet-met : meetsGain 6 1060 1007 ≡ true
+  pub sheet-missed : meetsGain 6 1060 1008 ≡ false
+  -- "Count 2^24 is read", "Block size 2^20 is read"
+  pub count-most : readAnswer true unnamed (0x03 ∷ 0x01 ∷ 0x80 ∷ 0x80 ∷ 0x80 ∷ 0x08 ∷ 0x00 ∷ []) (2 ^ 24) ≡ Accepted (2 ^ 24)
+  pub block-most : readAnswer true unnamed (0x07 ∷ 0x01 ∷ 0x01 ∷ 0x0a ∷ 0x80 ∷ 0x80 ∷ 0x40 ∷ []) 1 ≡ Accepted 1
+  -- "8 bytes a value, little-endian": −2; "least value (8 bytes), width byte, packed differences from it": 7 and 10
+  pub plain-bytes : chunkOf Plain (negsuc 1 ∷ []) ≡ 0x01 ∷ 0x01 ∷ 0x01 ∷ 0xfe ∷ 0xff ∷ 0xff ∷ 0xff ∷ 0xff ∷ 0xff ∷ 0xff ∷ 0xff ∷ []
+  pub frame-bytes : chunkOf FrameOfReference (pos 7 ∷ pos 10 ∷ []) ≡ 0x04 ∷ 0x01 ∷ 0x02 ∷ 7 ∷ 0 ∷ 0 ∷ 0 ∷ 0 ∷ 0 ∷ 0 ∷ 0 ∷ 0x02 ∷ 0x0c ∷ []
+  -- "fill the buffer's front; the rest is untouched"
+  pub output-front : writeOutput 1 [] 0 (9 ∷ 9 ∷ 9 ∷ 9 ∷ []) ≡ 0x01 ∷ 0x01 ∷ 0x00 ∷ 9 ∷ []
+  pub output-refused : writeOutput 1 [] 0 (9 ∷ 9 ∷ []) ≡ 9 ∷ 9 ∷ []
+  pub column-front : readColumn false unnamed (0x03 ∷ 0x01 ∷ 0x01 ∷ 0x04 ∷ 0x0a ∷ []) (pos 7 ∷ pos 8 ∷ []) ≡ pos 5 ∷ pos 8 ∷ []
+  pub column-refused : readColumn true unnamed (0x03 ∷ 0x01 ∷ 0x01 ∷ 0x04 ∷ 0x0a ∷ 0x00 ∷ []) (pos 7 ∷ pos 8 ∷ []) ≡ pos 7 ∷ pos 8 ∷ []
+  pub pack-front : packOutput (1 ∷ 2 ∷ 3 ∷ []) 2 (9 ∷ 9 ∷ []) ≡ 0x39 ∷ 9 ∷ []
+  pub unpack-front : unpackBuffer (0xf9 ∷ 0xff ∷ []) 2 3 (9 ∷ 9 ∷ 9 ∷ 9 ∷ []) ≡ 1 ∷ 2 ∷ 3 ∷ 9 ∷ []
+  pub varint-front : uvarintWriteOutput 300 (9 ∷ 9 ∷ 9 ∷ []) ≡ 0xac ∷ 0x02 ∷ 9 ∷ []
+  -- "the distinct values rising .., then old contents", after a plan at level 0 too and past a Dictionary's 20; "Other calls leave it."
+  pub scratch-stats : analysisScratch fives (pos 1 ∷ pos 2 ∷ pos 3 ∷ pos 4 ∷ []) ≡ pos 5 ∷ pos 2 ∷ pos 3 ∷ pos 4 ∷ []
+  pub scratch-plan : planScratch 0 ends (pos 1 ∷ pos 2 ∷ pos 3 ∷ []) ≡ negsuc (2 ^ 63 - 1) ∷ pos (2 ^ 63 - 1) ∷ pos 3 ∷ []
+  pub scratch-dictionary : writeScratch 6 fives (pos 1 ∷ pos 2 ∷ pos 3 ∷ pos 4 ∷ []) ≡ pos 5 ∷ pos 2 ∷ pos 3 ∷ pos 4 ∷ []
+  pub scratch-other : writeScratch 5 fives (pos 1 ∷ pos 2 ∷ pos 3 ∷ pos 4 ∷ []) ≡ pos 1 ∷ pos 2 ∷ pos 3 ∷ pos 4 ∷ []
+  pub scratch-refused : analysisScratch fives (pos 1 ∷ pos 2 ∷ pos 3 ∷ []) ≡ pos 1 ∷ pos 2 ∷ pos 3 ∷ []
+  -- an accepted count is that of the values at the scratch's front; "the part is empty .. where 21 or 22 refuses"
+  pub stats-count : statsAnswer fives 4 .answer ≡ Accepted 1
+  pub part : distinctValuesPart ends 2 ≡ ends
+  pub part-refused : distinctValuesPart ends 1 ≡ []
+
+-- of exactly 16,384 distinct values the cardinality is exact
+most-distinct-law : (column : List ℤ) → length (distinct column) ≡ 16384 → cardinalityOf column ≡ Exact 16384
+unfolding cardinalityOf tooManyDistinct
+most-distinct-law column e = rw e
+
+-- of more it is a bound
+over-distinct-law : (column : List ℤ) → 16385 ≤ length (distinct column) → cardinalityOf column ≡ AtLeast 16385
+unfolding cardinalityOf tooManyDistinct
+over-distinct-law column h = rw (lt-ltb maxDictionaryCardinality (length (distinct column)) h)
+
+pub worked : Worked
+unfolding planning-computes reading-computes standalone-computes zerosThen
+worked =
+    record {
+      ids = refl;
+      ranks = refl;
+      least-zigzag = refl;
+      widths = refl;
+      padded-zero = refl;
+      most-distinct = λ column e. most-distinct-law column e;
+      over-distinct = λ column h. over-distinct-law column h;
+      empty-stats = refl;
+      one-value = (refl, refl, refl);
+      orders = refl;
+      wrapped = (refl, refl);
+      empty-lengths = refl;
+      empty-available = refl;
+      empty-reasons = refl;
+      empty-density = refl;
+      empty-ratio = refl;
+      level-0 = (refl, refl);
+      gains-met = refl;
+      gains-missed = refl;
+      jump-estimate = refl;
+      jump-chunk = refl;
+      sheet-met = refl;
+      sheet-missed = refl;
+      count-most = refl;
+      block-most = refl;
+      plain-bytes = refl;
+      frame-bytes = refl;
+      output-front = refl;
+      output-refused = refl;
+      column-front = refl;
+      column-refused = refl;
+      pack-front = refl;
+      unpack-front = refl;
+      varint-front = refl;
+      scratch-stats = refl;
+      scratch-plan = refl;
+      scratch-dictionary = refl;
+      scratch-other = refl;
+      scratch-refused = refl;
+      stats-count = refl;
+      part = refl;
+      part-refused = refl;
+    }
