@@ -1,5 +1,6 @@
--- How long an estimate can be, for a column of up to 2^24 values: at most 335,544,336 bytes, and Plain's at most 134,217,734. So every number that is summed up
--- on the way fits 64 bits, and is exact as an f64. A varint has at most 10 bytes and a packed number at most 8, and an estimate has at most two of these a value.
+-- How long an estimate can be, for a column of up to 2^24 values: at most 335,544,336 bytes, and Plain's at most 134,217,734. So every number that is summed
+-- up on the way fits 64 bits, and is exact as an f64. A varint has at most 10 bytes and a packed number at most 8, and an estimate has at most two of these a
+-- value, beside its header and the like.
 use mathlib.Core.Path.{_≡_}
 use Prim.Native.Nat.{ℕ, _+_, _-_, _*_, max, _≤_}
 use native.Mathlib.Nat.{le-trans, mul-le-mul-left, suc-mul}

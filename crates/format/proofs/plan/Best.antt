@@ -1,6 +1,6 @@
 -- The best candidate of a list of estimates: "the least length of an available candidate; equal, the lower `decode_cost_rank`; equal, the earlier".
 -- Ranks and ids are below 8, so this order is that of the number (length * 8 + rank) * 8 + id, and every tie is settled by arithmetic. The search takes a
--- later candidate only for a lower length and rank; the ids rise along the list, so what it holds has the least number met so far.
+-- later candidate only for a lower length, or for the same length and a lower rank; the ids rise along the list, so the one held has the least number so far.
 use mathlib.Core.Path.{_≡_, refl, sym, ap, subst}
 use Prim.Native.Nat.{ℕ, _+_, _*_, _≤_, _<_}
 use native.Mathlib.Nat.{le-refl, le-trans}

@@ -1,7 +1,7 @@
 -- CR 13: the f64 test of gain is a test on whole numbers, for a plain length n and a length m of up to 134,217,734. 1.0 less the gain is the f64 M / 2 ^ 53,
 -- which is very near to a fraction p / q; the product n * M / 2 ^ 53 is rounded once, and compared with m.
--- If q * m ≤ p * n, the product is not below m by half of its last digit, so it is rounded to m or above. If p * n < q * m, then m exceeds n * p / q by 1/100
--- at least, and the product is at most m - 1/256, which is an f64; so it is rounded to that or below.
+-- If q * m ≤ p * n, the product is m or above, or below m by less than half of its last digit, so it is rounded to m or above. If p * n < q * m, then m exceeds
+-- n * p / q by 1/100 at least, so the product is at most m - 1/256; that is an f64, so the product is rounded to it or below.
 use mathlib.Core.Path.{_≡_, refl, sym, ap, _∙_, subst}
 use mathlib.Core.Logic.{inl, inr}
 use Prim.Native.Nat.{ℕ, suc, _+_, _-_, _*_, _^_, _≤_, _<_, zero-le}
@@ -52,7 +52,7 @@ product-below p q m n s D M Q near e h enough =
         let right : 256 * m * (D * q) ≡ 256 * (q * m * D) = simp (mul-assoc, mul-comm, mul-left-comm) in
         omega arith
 
--- s / 256, where s is 256 * m - 1, is less than m
+-- what is at most s / 256, where s is 256 * m - 1, is less than m
 part-below : (s m L G : ℕ) → suc s ≡ 256 * m → G * 256 ≤ s * L → 0 < L → G < m * L
 part-below s m L G e h l =
     let one : suc s * L ≡ s * L + L = suc-mul s L in
@@ -66,7 +66,7 @@ second-positive q m h = first-pos m q (rw (mul-comm q m) at h)
 
 -- ---- f64 values
 
--- a multiple of 1/256 of up to 2 ^ 45 is one
+-- a multiple of 1/256 below 2 ^ 45 is one
 part-value : (s : ℕ) → s < 2 ^ 53 → HasValue (round binary64 false s 256) false s 256
 part-value s h =
     round-exact binary64 false s 256 s 1066 (zero-lt-suc 255) h
@@ -232,13 +232,3 @@ gain-fraction level plain bytes P B = go (leb level 3) (leb level 6)
     go true d = ap not (share-test share-20 plain bytes P B)
     go false true = ap not (share-test share-5 plain bytes P B)
     go false false = ap not (share-test share-1 plain bytes P B)
-
--- the sample sheet, by running the f64 arithmetic itself: "Plain 1,060 at level 6: a best of 1,007 is kept,
-meetsGain-1007 : meetsGain 6 1060 1007 ≡ true
-unfolding meetsGain threshold minimumGain lt sub add neg sum mul ofInt round size span climb units odd trailingZeros
-meetsGain-1007 = refl
-
--- 1,008 is not."
-meetsGain-1008 : meetsGain 6 1060 1008 ≡ false
-unfolding meetsGain threshold minimumGain lt sub add neg sum mul ofInt round size span climb units odd trailingZeros
-meetsGain-1008 = refl

@@ -147,7 +147,7 @@ gain-fraction-all level plain bytes positive P = go (decLe bytes 134217734)
 
 -- ---- CR 13, by levels
 
--- p / q is the fraction of plain that a length may have at a level
+-- p / q is the fraction of plain that a length may have at a level (no plan is made above level 9)
 pub data LevelFraction (level : ℕ) : ℕ → ℕ → Type 0 where
   -- "5 times the length exceeds 4 times plain at levels 1 to 3,
   levels-1-3 : 1 ≤ level → level ≤ 3 → LevelFraction level 4 5

@@ -60,10 +60,11 @@ reasonOf-case level count es b = go (eqb count 0) (eqb level 0) (eqb (idOf b) 1)
 abbrev pub bestOf : List ℤ → Encoding
 bestOf column = best (estimatesOf column)
 
--- its length, and Plain's
+-- its length,
 abbrev pub shortestLength : List ℤ → ℕ
 shortestLength column = lengthIn (estimatesOf column) (bestOf column)
 
+-- and Plain's
 abbrev pub plainLength : List ℤ → ℕ
 plainLength column = lengthIn (estimatesOf column) Plain
 
