@@ -17,7 +17,7 @@ use Rattle.format.specs.Plan.{beats, bestFrom, best}
 use Rattle.format.specs.declared.Encoding.{Encoding}
 use Rattle.format.specs.declared.Encoding.the-variants.{Plain, Varint, BitPacked, FrameOfReference, RunLength, Dictionary, DeltaBinaryPacked}
 use Rattle.format.specs.declared.SizeEstimates.{SizeEstimates}
-use Rattle.format.proofs.codecs.Encodings.{id-same, id-small, rank-small}
+use Rattle.format.proofs.codecs.Encodings.{id-same, idOf-high, rank-small}
 
 -- ---- the order of candidates as one number
 
@@ -87,7 +87,7 @@ best-taken es b e l found t h =
     let less : (availableIn es e ≡ true) × (cost es e < cost es b) = beats-true es e b t in
     record {
       available-too = λ there. h .available-too (less .0);
-      not-after-b = le-trans (h .not-after-b) (omega (arith, less .1, id-small e));
+      not-after-b = le-trans (h .not-after-b) (omega (arith, less .1, idOf-high e));
       not-after = λ d m there. elim m [
         | inl p ↦ subst (λ (x : Encoding). order es found ≤ order es x) p (h .not-after-b)
         | inr n ↦ h .not-after d n there
@@ -155,11 +155,11 @@ best-is es plain =
 module _ (es : SizeEstimates) (b : Encoding) (h : Best es b) (e : Encoding) (there : availableIn es e ≡ true) where
   -- "the least length of an available candidate"
   pub best-least : lengthIn es b ≤ lengthIn es e
-  best-least = omega (arith, h .first e there, id-small e, rank-small e)
+  best-least = omega (arith, h .first e there, idOf-high e, rank-small e)
 
   -- "equal, the lower `decode_cost_rank`"
   pub best-rank : lengthIn es b ≡ lengthIn es e → decodeCostRank b ≤ decodeCostRank e
-  best-rank same = omega (arith, h .first e there, id-small e)
+  best-rank same = omega (arith, h .first e there, idOf-high e)
 
   -- "equal, the earlier"
   pub best-earliest : lengthIn es b ≡ lengthIn es e → decodeCostRank b ≡ decodeCostRank e → idOf b ≤ idOf e
@@ -167,4 +167,4 @@ module _ (es : SizeEstimates) (b : Encoding) (h : Best es b) (e : Encoding) (the
 
 -- there is only one best
 pub best-one : (es : SizeEstimates) (a b : Encoding) → Best es a → Best es b → a ≡ b
-best-one es a b p q = id-same a b (omega (arith, p .first b (q .available), q .first a (p .available), id-small a, id-small b))
+best-one es a b p q = id-same a b (omega (arith, p .first b (q .available), q .first a (p .available), idOf-high a, idOf-high b))

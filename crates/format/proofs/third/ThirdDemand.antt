@@ -8,8 +8,7 @@ use native.Mathlib.Nat.{le-trans, le-of-eq}
 use mathlib.Core.Bool.{Bool, true, false}
 use mathlib.Core.List.{List}
 use lib.IntN.{ℤ}
-use lib.ListN.{length, take, drop}
-use lib.Seq.{take-append-seam}
+use lib.ListN.{length, take}
 use Rattle.format.specs.Keys.{Keys}
 use Rattle.format.specs.Encodings.{idOf, maxChunkElements}
 use Rattle.format.specs.Header.{Naming}
@@ -24,7 +23,7 @@ use Rattle.format.specs.declared.Encoding.{Encoding}
 use Rattle.format.specs.declared.Encoding.the-variants.{Plain, DeltaBinaryPacked}
 use Rattle.format.specs.declared.PlanReason.the-variants.{GainBelowThreshold}
 use Rattle.format.specs.declared.Answer.the-variants.{Accepted}
-use Rattle.format.proofs.codecs.Chunk.{readAnswer-back, readColumn-back}
+use Rattle.format.proofs.codecs.Chunk.{readAnswer-back, readColumn-front}
 use Rattle.format.proofs.lengths.Exact.{plain-exact, chunk-exact}
 use Rattle.format.proofs.lengths.Chunks.{chunk-at-most}
 use Rattle.format.proofs.plan.Plan.{plan-estimates, plan-bytes, plan-plain, plan-available, plan-not-above, plan-smallest, plan-no-gain}
@@ -99,9 +98,7 @@ module _ (column : List ℤ) (keys : Keys column) (size : length column ≤ maxC
 
     -- "and the buffer's front holds its keys"
     read-back : take (length column) (readColumn strict naming (chunkStored (planned level column) column scratch output) buffer) ≡ column
-    read-back =
-        rw (stored-chunk, readColumn-back (planned level column) strict column keys size names buffer buffer-room)
-        (take-append-seam column (drop (length column) buffer))
+    read-back = rw stored-chunk (readColumn-front (planned level column) strict column keys size names buffer buffer-room)
 
 -- ---- the demand
 
