@@ -25,7 +25,7 @@ use Rattle.format.specs.declared.Cardinality.the-variants.{Exact, AtLeas
 use Rattle.format.specs.declared.Sortedness.the-variants.{Constant, Ascending, Descending, Unsorted}
 use Rattle.format.specs.declared.PlanReason.the-variants.{Empty, CompressionDisabled}
 use Rattle.format.specs.declared.Answer.the-variants.{Accepted}
-use Rattle.format.specs.declared.Encoding.the-variants.{Plain, FrameOfReference, DeltaBinaryPacked}
+use Rattle.format.specs.declared.Encoding.the-variants.{Plain, FrameOfReference, Dictionary, DeltaBinaryPacked}
 use Rattle.format.proofs.samples.Computing.{reading-computes, planning-computes, standalone-computes}
 use Rattle.format.proofs.samples.Stars.{fives, ends}
 
@@ -84,6 +84,10 @@ pub record Worked : Type 0 where
   -- "8 bytes a value, little-endian": −2; "least value (8 bytes), width byte, packed differences from it": 7 and 10
   pub plain-bytes : chunkOf Plain (negsuc 1 ∷ []) ≡ 0x01 ∷ 0x01 ∷ 0x01 ∷ 0xfe ∷ 0xff ∷ 0xff ∷ 0xff ∷ 0xff ∷ 0xff ∷ 0xff ∷ 0xff ∷ []
   pub frame-bytes : chunkOf FrameOfReference (pos 7 ∷ pos 10 ∷ []) ≡ 0x04 ∷ 0x01 ∷ 0x02 ∷ 7 ∷ 0 ∷ 0 ∷ 0 ∷ 0 ∷ 0 ∷ 0 ∷ 0 ∷ 0x02 ∷ 0x0c ∷ []
+  -- "No entries: only total and width."
+  pub empty-dictionary : chunkOf Dictionary [] ≡ 0x06 ∷ 0x01 ∷ 0x00 ∷ 0x00 ∷ 0x00 ∷ []
+  -- "a zero length is read": no 5, then 6 twice
+  pub zero-run : readColumn true unnamed (0x05 ∷ 0x01 ∷ 0x02 ∷ 0x02 ∷ 0x0a ∷ 0x00 ∷ 0x0c ∷ 0x02 ∷ []) (pos 0 ∷ pos 0 ∷ []) ≡ pos 6 ∷ pos 6 ∷ []
   -- "fill the buffer's front; the rest is untouched"
   pub output-front : writeOutput 1 [] 0 (9 ∷ 9 ∷ 9 ∷ 9 ∷ []) ≡ 0x01 ∷ 0x01 ∷ 0x00 ∷ 9 ∷ []
   pub output-refused : writeOutput 1 [] 0 (9 ∷ 9 ∷ []) ≡ 9 ∷ 9 ∷ []
@@ -144,6 +148,8 @@ worked =
       block-most = refl;
       plain-bytes = refl;
       frame-bytes = refl;
+      empty-dictionary = refl;
+      zero-run = refl;
       output-front = refl;
       output-refused = refl;
       column-front = refl;
