@@ -82,9 +82,9 @@ length-runs [] = le-refl 0
 length-runs (v ∷ vs) = count-from v 1 vs
 
 -- "longest possible": no run is empty, no two neighbours have the same value, and the first has the value `key`
-pub data LongestFrom (key : ℤ) : List Run → Type 0 where
-  last-run : {times : ℕ} → 1 ≤ times → LongestFrom key (record { key = key; times = times } ∷ [])
-  next-run : {times : ℕ} {other : ℤ} {rs : List Run} → 1 ≤ times → eqZ key other ≡ false → LongestFrom other rs
+pub data LongestFrom : ℤ → List Run → Type 0 where
+  last-run : {key : ℤ} {times : ℕ} → 1 ≤ times → LongestFrom key (record { key = key; times = times } ∷ [])
+  next-run : {key : ℤ} {times : ℕ} {other : ℤ} {rs : List Run} → 1 ≤ times → eqZ key other ≡ false → LongestFrom other rs
       → LongestFrom key (record { key = key; times = times } ∷ rs)
 
 longest-step :
