@@ -81,6 +81,28 @@ unfolding runs
 length-runs [] = le-refl 0
 length-runs (v ∷ vs) = count-from v 1 vs
 
+-- "longest possible": no run is empty, no two neighbours have the same value, and the first has the value `key`
+pub data LongestFrom : ℤ → List Run → Type 0 where
+  last-run : {key : ℤ} {times : ℕ} → 1 ≤ times → LongestFrom key (record { key = key; times = times } ∷ [])
+  next-run : {key : ℤ} {times : ℕ} {other : ℤ} {rs : List Run} → 1 ≤ times → eqZ key other ≡ false → LongestFrom other rs
+      → LongestFrom key (record { key = key; times = times } ∷ rs)
+
+longest-step :
+    (key v : ℤ) (times : ℕ) (vs : List ℤ) → 1 ≤ times → ((n : ℕ) → 1 ≤ n → LongestFrom v (runsFrom v n vs)) → (t : Bool) → eqZ key v ≡ t
+    → LongestFrom key (cond t [] (record { key = key; times = times } ∷ []) ++ runsFrom v (cond t (times + 1) 1) vs)
+longest-step key v times vs some ih true e = rw (eqZ-true key v e) (ih (times + 1) (omega arith))
+longest-step key v times vs some ih false e = next-run some e (ih 1 (le-refl 1))
+
+longest-from : (key : ℤ) (times : ℕ) (vs : List ℤ) → 1 ≤ times → LongestFrom key (runsFrom key times vs)
+unfolding runsFrom
+longest-from key times [] some = last-run some
+longest-from key times (v ∷ vs) some = longest-step key v times vs some (λ n. longest-from v n vs) (eqZ key v) refl
+
+-- the runs of a column are so
+pub runs-longest : (v : ℤ) (vs : List ℤ) → LongestFrom v (runs (v ∷ vs))
+unfolding runs
+runs-longest v vs = longest-from v 1 vs (le-refl 1)
+
 -- a run of a key that is not too long for a varint
 pub record RunFits (r : Run) : Type 0 where
   pub key : Key (r .key)

@@ -1,5 +1,5 @@
--- The distinct values of a column: how many there are, that the walk capped at 16,384 gives all of them where there are no more, and that they are keys. Each law
--- is one of `insert`, which adds one value at most and none that is there, followed along the walk.
+-- The distinct values of a column: how many there are, that the walk capped at 16,384 gives all of them where there are no more, that they are the column's
+-- values, and that they rise. Each law is one of `insert`, which adds one value at most and none that is there, followed along the walk.
 use mathlib.Core.Path.{_≡_, refl, sym, ap, _∙_}
 use Prim.Native.Nat.{suc, _+_, min, _≤_, _<_}
 use native.Mathlib.Nat.{le-refl, le-trans}
@@ -149,26 +149,95 @@ length-cappedDistinct column = length-cappedDistinctFrom [] column (omega arith)
 pub cappedDistinct-most : (column : List ℤ) → length (cappedDistinct column) ≤ min (length column) maxDictionaryCardinality
 cappedDistinct-most column = omega (arith, length-cappedDistinct column, length-distinct column)
 
--- ---- of a column of keys they are keys
+-- ---- they are among the column's values
 
-key-step : (v x : ℤ) (xs : List ℤ) → Key v → Key x → All Key xs → All Key (insert v xs) → (t u : Bool)
-    → All Key (cond t (x ∷ insert v xs) (cond u (v ∷ x ∷ xs) (x ∷ xs)))
-key-step v x xs k l r ih true u = all-more l ih
-key-step v x xs k l r ih false true = all-more k (all-more l r)
-key-step v x xs k l r ih false false = all-more l r
+module _ (P : ℤ → Type 0) where
+  has-step : (v x : ℤ) (xs : List ℤ) → P v → P x → All P xs → All P (insert v xs) → (t u : Bool)
+      → All P (cond t (x ∷ insert v xs) (cond u (v ∷ x ∷ xs) (x ∷ xs)))
+  has-step v x xs p q r ih true u = all-more q ih
+  has-step v x xs p q r ih false true = all-more p (all-more q r)
+  has-step v x xs p q r ih false false = all-more q r
 
--- a key inserted into keys
-insert-keys : {xs : List ℤ} (v : ℤ) → Key v → All Key xs → All Key (insert v xs)
-unfolding insert
-insert-keys v k all-none = all-more k all-none
-insert-keys v k (all-more {x} {xs} l r) = key-step v x xs k l r (insert-keys v k r) (ltZ x v) (ltZ v x)
+  -- what holds of a value and of a list holds of the list with the value inserted
+  insert-has : {xs : List ℤ} (v : ℤ) → P v → All P xs → All P (insert v xs)
+  unfolding insert
+  insert-has v p all-none = all-more p all-none
+  insert-has v p (all-more {x} {xs} q r) = has-step v x xs p q r (insert-has v p r) (ltZ x v) (ltZ v x)
 
-keys-from : {held vs : List ℤ} → All Key held → All Key vs → All Key (distinctFrom held vs)
-unfolding distinctFrom
-keys-from h all-none = h
-keys-from h (all-more {x} k r) = keys-from (insert-keys x k h) r
+  distinctFrom-has : {held vs : List ℤ} → All P held → All P vs → All P (distinctFrom held vs)
+  unfolding distinctFrom
+  distinctFrom-has h all-none = h
+  distinctFrom-has h (all-more {x} p r) = distinctFrom-has (insert-has x p h) r
+
+  -- what holds of every value of a column holds of its distinct values
+  pub distinct-has : {column : List ℤ} → All P column → All P (distinct column)
+  unfolding distinct
+  distinct-has r = distinctFrom-has all-none r
 
 -- the distinct values of a column of keys are keys
 pub distinct-keys : {column : List ℤ} → All Key column → All Key (distinct column)
+distinct-keys ks = distinct-has Key ks
+
+-- ---- they rise
+
+-- v is less than the first of a list, if there is one
+abbrev pub Under : ℤ → List ℤ → Type 0
+Under v [] = Unit {0}
+Under v (x ∷ xs) = ltZ v x ≡ true
+
+-- each value is less than the next
+abbrev pub Rising : List ℤ → Type 0
+Rising [] = Unit {0}
+Rising (x ∷ xs) = Under x xs × Rising xs
+
+under-step :
+    (v x y : ℤ) (ys : List ℤ) → ltZ x v ≡ true → ltZ x y ≡ true → (t u : Bool)
+    → Under x (cond t (y ∷ insert v ys) (cond u (v ∷ y ∷ ys) (y ∷ ys)))
+under-step v x y ys h k true u = k
+under-step v x y ys h k false true = h
+under-step v x y ys h k false false = k
+
+-- what is less than v and than the first of a list is less than the first once v is inserted
+insert-under : (v x : ℤ) (xs : List ℤ) → ltZ x v ≡ true → Under x xs → Under x (insert v xs)
+unfolding insert
+insert-under v x [] h u = h
+insert-under v x (y ∷ ys) h u = under-step v x y ys h u (ltZ y v) (ltZ v y)
+
+rising-step :
+    (v x : ℤ) (xs : List ℤ) → Rising (x ∷ xs) → Rising (insert v xs) → (t u : Bool) → ltZ x v ≡ t → ltZ v x ≡ u
+    → Rising (cond t (x ∷ insert v xs) (cond u (v ∷ x ∷ xs) (x ∷ xs)))
+rising-step v x xs r ih true u h k = (insert-under v x xs h (r .0), ih)
+rising-step v x xs r ih false true h k = (k, r)
+rising-step v x xs r ih false false h k = r
+
+-- inserting keeps a list rising
+pub insert-rising : (v : ℤ) (xs : List ℤ) → Rising xs → Rising (insert v xs)
+unfolding insert
+insert-rising v [] r = (tt, tt)
+insert-rising v (x ∷ xs) r = rising-step v x xs r (insert-rising v xs (r .1)) (ltZ x v) (ltZ v x) refl refl
+
+distinctFrom-rising : (held vs : List ℤ) → Rising held → Rising (distinctFrom held vs)
+unfolding distinctFrom
+distinctFrom-rising held [] r = r
+distinctFrom-rising held (v ∷ vs) r = distinctFrom-rising (insert v held) vs (insert-rising v held r)
+
+-- "the distinct values rising"
+pub distinct-rising : (column : List ℤ) → Rising (distinct column)
 unfolding distinct
-distinct-keys ks = keys-from all-none ks
+distinct-rising column = distinctFrom-rising [] column tt
+
+-- the same for the capped walk, which inserts fewer of them
+capped-step : (held vs : List ℤ) (v : ℤ) → Rising held → (t : Bool) → ((l : List ℤ) → Rising l → Rising (cappedDistinctFrom l vs))
+    → Rising (cappedDistinctFrom (cond t (insert v held) held) vs)
+capped-step held vs v r true ih = ih (insert v held) (insert-rising v held r)
+capped-step held vs v r false ih = ih held r
+
+cappedDistinctFrom-rising : (held vs : List ℤ) → Rising held → Rising (cappedDistinctFrom held vs)
+unfolding cappedDistinctFrom
+cappedDistinctFrom-rising held [] r = r
+cappedDistinctFrom-rising held (v ∷ vs) r =
+    capped-step held vs v r (ltb (length held) maxDictionaryCardinality) (λ l q. cappedDistinctFrom-rising l vs q)
+
+pub cappedDistinct-rising : (column : List ℤ) → Rising (cappedDistinct column)
+unfolding cappedDistinct
+cappedDistinct-rising column = cappedDistinctFrom-rising [] column tt
