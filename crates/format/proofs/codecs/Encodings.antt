@@ -1,10 +1,8 @@
 -- The seven encodings: their ids are 1 to 7 and tell them apart, and their ranks are below 8. Each fact is seven cases that compute.
 use mathlib.Core.Path.{_≡_, refl, sym, ap, _∙_}
-use mathlib.Core.Bool.{Bool, true, false}
-use mathlib.Core.Logic.{_⊎_, inl, inr, _≢_}
+use mathlib.Core.Bool.{true}
 use Prim.Native.Nat.{_≤_, _<_}
-use borrow.Author.Tests.{eqb-true, eqb-false}
-use lib.Dec.{eqb, lit≤, lit<}
+use lib.Dec.{lit≤, lit<}
 use Rattle.format.specs.Encodings.{idOf, encodings, encodingOf, decodeCostRank, within}
 use Rattle.format.specs.declared.Encoding.{Encoding}
 use Rattle.format.specs.declared.Encoding.the-variants.{Plain, Varint, BitPacked, FrameOfReference, RunLength, Dictionary, DeltaBinaryPacked}
@@ -59,24 +57,6 @@ rank-small RunLength = lit< tt
 rank-small Dictionary = lit< tt
 rank-small DeltaBinaryPacked = lit< tt
 
--- ids are below 8
-pub id-small : (e : Encoding) → idOf e < 8
-id-small Plain = lit< tt
-id-small Varint = lit< tt
-id-small BitPacked = lit< tt
-id-small FrameOfReference = lit< tt
-id-small RunLength = lit< tt
-id-small Dictionary = lit< tt
-id-small DeltaBinaryPacked = lit< tt
-
 -- ids tell the encodings apart
 pub id-same : (a b : Encoding) → idOf a ≡ idOf b → a ≡ b
 id-same a b p = sym (encodingOf-id a) ∙ ap encodingOf p ∙ encodingOf-id b
-
--- two encodings are the same or not
-pub same-or-not : (a b : Encoding) → (a ≡ b) ⊎ (a ≢ b)
-same-or-not a b = go (eqb (idOf a) (idOf b)) (eqb-true (idOf a) (idOf b)) (eqb-false (idOf a) (idOf b))
-  where
-    go : (t : Bool) → (t ≡ true → idOf a ≡ idOf b) → (t ≡ false → idOf a ≡ idOf b → ⊥) → (a ≡ b) ⊎ (a ≢ b)
-    go true y n = inl (id-same a b (y refl))
-    go false y n = inr (λ (p : a ≡ b). n refl (ap idOf p))

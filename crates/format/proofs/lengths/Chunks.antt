@@ -19,7 +19,8 @@ use Rattle.format.specs.declared.Encoding.the-variants.{Plain, Varint, B
 use Rattle.format.proofs.lengths.Estimates.{dictionary-few, delta-two}
 use Rattle.format.proofs.lengths.Exact.{plain-exact, varint-exact, bitPacked-exact, frame-exact, runLength-exact, dictionary-exact}
 use Rattle.format.proofs.lengths.DeltaBound.{delta-most}
-use Rattle.format.proofs.lengths.Limits.{estimate-most, headerLen-most, varintLen-le}
+use Rattle.format.proofs.lengths.Limits.{estimate-most, headerLen-most}
+use Rattle.format.proofs.numbers.Keys.{varintLen-le}
 use Rattle.format.proofs.lengths.DeltaLength.{blocksLen, delta-length, delta-length-none}
 
 -- the chunk in an available encoding has at most the estimated bytes

@@ -30,13 +30,9 @@ use Rattle.format.proofs.numbers.Distinct.{length-distinct}
 use Rattle.format.proofs.codecs.RunLength.{length-runs}
 use Rattle.format.proofs.lengths.Estimates.{plain-estimate, varint-estimate, bitPacked-estimate, frame-estimate, runLength-estimate, dictionary-estimate, delta-estimate, dictionary-none, delta-none, dictionary-few, delta-two}
 use Rattle.format.proofs.lengths.DeltaLength.{deltaBlockSize-len}
+use Rattle.format.proofs.numbers.Keys.{varintLen-le}
 
 -- ---- the parts
-
--- a signed varint has at most 10 bytes
-pub varintLen-le : (v : ℤ) → varintLen v ≤ 10
-unfolding varintLen
-varintLen-le v = uvarintLen-le (zigzag v)
 
 -- a run has at most 20
 pub runLen-le : (r : Run) → runLen r ≤ 20

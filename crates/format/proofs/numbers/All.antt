@@ -1,8 +1,8 @@
--- What holds of every element of a list, and of its parts.
+-- What holds of every element of a list, and of its parts. Every law is by induction on the list; `Below` is the case that numbers, bytes and digits need.
 use mathlib.Core.Path.{_≡_, refl}
-use mathlib.Core.List.{List, [], _∷_, _++_, map}
+use mathlib.Core.List.{List, [], _∷_, map}
 use Prim.Native.Nat.{ℕ, zero, suc, _<_, suc-le-suc}
-use native.Mathlib.Nat.{zero-lt-suc, le-of-suc-le-suc, not-suc-le-zero}
+use native.Mathlib.Nat.{zero-lt-suc}
 use lib.ListN.{length, getD, take, drop}
 
 -- P holds of every element
@@ -27,20 +27,7 @@ module _ {A : Type 0} where
   all-drop (suc n) all-none = all-none
   all-drop (suc n) (all-more h r) = all-drop n r
 
-  pub all-left : {P : A → Type 0} (xs ys : List A) → All P (xs ++ ys) → All P xs
-  all-left [] ys r = all-none
-  all-left (x ∷ xs) ys (all-more h r) = all-more h (all-left xs ys r)
-
-  pub all-right : {P : A → Type 0} (xs ys : List A) → All P (xs ++ ys) → All P ys
-  all-right [] ys r = r
-  all-right (x ∷ xs) ys (all-more h r) = all-right xs ys r
-
-  -- by places
-  pub all-at : {P : A → Type 0} {xs : List A} (d : A) → All P xs → (i : ℕ) → i < length xs → P (getD xs i d)
-  all-at d all-none i h = absurd (not-suc-le-zero h)
-  all-at d (all-more p r) zero h = p
-  all-at d (all-more p r) (suc i) h = all-at d r i (le-of-suc-le-suc h)
-
+  -- where it holds at every place
   pub all-by : {P : A → Type 0} (xs : List A) (d : A) → ((i : ℕ) → i < length xs → P (getD xs i d)) → All P xs
   all-by [] d f = all-none
   all-by (x ∷ xs) d f = all-more (f zero (zero-lt-suc (length xs))) (all-by xs d (λ i h. f (suc i) (suc-le-suc h)))
@@ -59,6 +46,7 @@ module _ {A : Type 0} where
   all-both all-none s = all-none
   all-both (all-more h r) (all-more k s) = all-more (h, k) (all-both r s)
 
+  -- a function that changes no element
   pub map-id : {f : A → A} {xs : List A} → All (λ x. f x ≡ x) xs → map f xs ≡ xs
   map-id all-none = refl
   map-id (all-more {x} {xs} h r) = rw (h, map-id r)

@@ -69,11 +69,6 @@ pub length-distinct : (column : List ℤ) → length (distinct column) ≤ lengt
 unfolding distinct
 length-distinct column = omega (arith, distinctFrom-most [] column)
 
--- at least one, where there is a value
-pub distinct-some : (v : ℤ) (vs : List ℤ) → 1 ≤ length (distinct (v ∷ vs))
-unfolding distinct distinctFrom insert
-distinct-some v vs = distinctFrom-grows (v ∷ []) vs
-
 -- the walk that stops at 16,384 is the walk, where no more are met
 cappedDistinctFrom-all : (held vs : List ℤ) → length (distinctFrom held vs) ≤ maxDictionaryCardinality → cappedDistinctFrom held vs ≡ distinctFrom held vs
 unfolding distinctFrom cappedDistinctFrom

@@ -2,7 +2,6 @@
 -- same differences, so what is claimed of gaps is arithmetic of heights.
 use mathlib.Core.Path.{_≡_, refl, sym, ap, _∙_, subst}
 use mathlib.Core.Bool.{Bool, true, false, cond}
-use mathlib.Core.Logic.{_⊎_, inl, inr}
 use Prim.Native.Nat.{ℕ, suc, _+_, _-_, _*_, _%_, _^_, _≤_, _<_, max}
 use native.Mathlib.Nat.{le-trans, le-antisymm, le-of-lt, le-max-left, le-max-right, le-refl}
 use native.Mathlib.Decide.{decLe}
@@ -58,13 +57,6 @@ pub ≤ℤ-antisymm : (a b : ℤ) → a ≤ℤ b → b ≤ℤ a → a ≡ b
 ≤ℤ-antisymm (pos a) (negsuc b) h k = absurd (h .le)
 ≤ℤ-antisymm (negsuc a) (pos b) h k = absurd (k .le)
 ≤ℤ-antisymm (negsuc a) (negsuc b) h k = ap negsuc (le-antisymm (leb→le a b (k .le)) (leb→le b a (h .le)))
-
-pub ≤ℤ-total : (a b : ℤ) → (a ≤ℤ b) ⊎ (b ≤ℤ a)
-≤ℤ-total a b = go (ltZ a b) refl
-  where
-    go : (t : Bool) → ltZ a b ≡ t → (a ≤ℤ b) ⊎ (b ≤ℤ a)
-    go true e = inl (ltZ-le a b e)
-    go false e = inr (ltZ-not a b e)
 
 -- no key is less than itself
 pub ltZ-self : (a : ℤ) → ltZ a a ≡ false
@@ -160,13 +152,6 @@ height-mono (pos a) (negsuc b) h = absurd (h .le)
 height-mono (negsuc a) (pos b) h = omega arith
 height-mono (negsuc a) (negsuc b) h = let k = leb→le b a (h .le) in omega arith
 
-pub height-le : (a b : ℤ) → Key a → Key b → height a ≤ height b → a ≤ℤ b
-unfolding height
-height-le (pos a) (pos b) ka kb h = record { le = le→leb a b (omega arith) }
-height-le (pos a) (negsuc b) ka kb h = absurd (omega arith)
-height-le (negsuc a) (pos b) ka kb h = record { le = tt }
-height-le (negsuc a) (negsuc b) ka kb h = record { le = le→leb b a (omega arith) }
-
 -- a key's height is below 2^64
 pub height-lt : (a : ℤ) → Key a → height a < 2 ^ 64
 unfolding height
@@ -188,24 +173,6 @@ gap-add a b = sym (residue-add (b -ℤ a) a) ∙ ap residue (-ℤ-+ℤ-cancel b 
 pub gap-is : (a b : ℤ) → Key a → Key b → a ≤ℤ b → height a + gap a b ≡ height b
 gap-is a b ka kb h =
     omega (arith, gap-add a b, gap-lt a b, height-residue a ka, height-residue b kb, height-mono a b h, residue-lt a, residue-lt b, height-lt a ka, height-lt b kb)
-
--- a step up from a key, by heights
-add-height : (a b : ℤ) (g : ℕ) → Key a → Key b → height a + g ≡ height b → a +ℤ pos g ≡ b
-unfolding height
-add-height (pos a) (pos b) g ka kb e = ap pos (omega arith)
-add-height (pos a) (negsuc b) g ka kb e = absurd (omega arith)
-add-height (negsuc a) (pos b) g ka kb e =
-    let k : suc a ≤ g = omega arith in let d : g - suc a ≡ b = omega arith in rw (le-ltb g (suc a) k, d)
-add-height (negsuc a) (negsuc b) g ka kb e =
-    let k : g < suc a = omega arith in let d : suc a - suc g ≡ b = omega arith in rw (lt-ltb g (suc a) k, d)
-
--- which is to say: a and the gap make b, with no wrapping
-pub add-gap : (a b : ℤ) → Key a → Key b → a ≤ℤ b → a +ℤ pos (gap a b) ≡ b
-add-gap a b ka kb h = add-height a b (gap a b) ka kb (gap-is a b ka kb h)
-
--- the gap to itself
-pub gap-self : (a : ℤ) → Key a → gap a a ≡ 0
-gap-self a k = omega (arith, gap-is a a k k (≤ℤ-refl a))
 
 module _ (a b c : ℤ) (ka : Key a) (kb : Key b) (kc : Key c) (h : a ≤ℤ b) (k : b ≤ℤ c) where
   -- gaps add up
@@ -245,10 +212,3 @@ pub varintLen-between : (lo d hi : ℤ) → Key lo → Key hi → lo ≤ℤ d �
 unfolding varintLen
 varintLen-between lo d hi kl kh h k =
     max-mono uvarintLen (2 ^ 64) uvarintLen-mono (zigzag d) (zigzag lo) (zigzag hi) (zigzag-lt lo kl) (zigzag-lt hi kh) (zigzag-between lo d hi h k)
-
--- what stands between two keys is a key
-pub key-between : (lo d hi : ℤ) → Key lo → Key hi → lo ≤ℤ d → d ≤ℤ hi → Key d
-key-between lo (pos d) (pos b) kl kh h k = let l = leb→le d b (k .le) in omega arith
-key-between lo (pos d) (negsuc b) kl kh h k = absurd (k .le)
-key-between (pos a) (negsuc d) hi kl kh h k = absurd (h .le)
-key-between (negsuc a) (negsuc d) hi kl kh h k = let l = leb→le d a (h .le) in omega arith

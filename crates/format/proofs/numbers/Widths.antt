@@ -45,14 +45,6 @@ width-least x w h = go (decLe (width x) w)
 pub width-mono : (x y : ℕ) → x ≤ y → y < 2 ^ 64 → width x ≤ width y
 width-mono x y h k = width-least x (width y) (lt-of-le-of-lt h (width-lt y k))
 
--- a number above 0 has a width above 0
-pub width-pos : (x : ℕ) → 0 < x → x < 2 ^ 64 → 0 < width x
-width-pos x p h = go (width x) (width-lt x h)
-  where
-    go : (w : ℕ) → x < 2 ^ w → 0 < w
-    go zero k = absurd (omega arith)
-    go (suc w) k = omega arith
-
 -- ---- a varint's length
 
 -- groups of seven binary digits
