@@ -58,7 +58,8 @@ validateDelta s start (suc left) padded = do
   first ← readUvarint s start
   size ← readUvarint s (first .next)
   _ ← check (within 1 (2 ^ 20) (size .value)) 19 (size .next)
-  validateBlocks s (size .value) (size .next) (blockCount (size .value) left) left (firstPadded (firstPadded padded start (first .unpadded)) (first .next) (size .unpadded))
+  validateBlocks s (size .value) (size .next) (blockCount (size .value) left) left
+      (firstPadded (firstPadded padded start (first .unpadded)) (first .next) (size .unpadded))
 
 -- the deltas of k blocks that were read: a walk from `at` on, with `left` deltas still to come
 unfoldable pub blockDeltas : List ℕ → ℕ → ℕ → ℕ → ℕ → List ℤ

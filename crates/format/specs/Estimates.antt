@@ -82,7 +82,9 @@ estimatesFrom r entries =
     let few = isExact (r .cardinality) in
     let two = leb 2 (r .count) in
     record {
-      lengths = plainEstimate r ∷ varintEstimate r ∷ bitPackedEstimate r ∷ frameEstimate r ∷ runLengthEstimate r ∷ ifAvailable few (dictionaryEstimate r entries) ∷ ifAvailable two (deltaEstimate r) ∷ [];
+      lengths =
+          plainEstimate r ∷ varintEstimate r ∷ bitPackedEstimate r ∷ frameEstimate r ∷ runLengthEstimate r
+          ∷ ifAvailable few (dictionaryEstimate r entries) ∷ ifAvailable two (deltaEstimate r) ∷ [];
       available = true ∷ true ∷ true ∷ true ∷ true ∷ few ∷ two ∷ [];
     }
 

@@ -34,7 +34,8 @@ chunkStored encoding column scratch output =
 
 -- What is claimed of a column that is planned at a level with a scratch lent, `lent`, then written in that plan's encoding with a scratch and an output
 -- lent, then read from the bytes that writing stored with a column buffer lent. `plan` is the plan made.
-pub record RoundTrip (column : List ℤ) (level : ℕ) (lent : List ℤ) (plan : EncodingPlan) (scratch : List ℤ) (output : List ℕ) (buffer : List ℤ) : Type 0 where
+pub record RoundTrip
+    (column : List ℤ) (level : ℕ) (lent : List ℤ) (plan : EncodingPlan) (scratch : List ℤ) (output : List ℕ) (buffer : List ℤ) : Type 0 where
   -- "None of this is refused": planning answers with the count of distinct values that it stored, writing with the length of the column's chunk,
   pub planned : planAnswer level column (length lent) ≡ record { answer = Accepted (length (cappedDistinct column)); plan = plan }
   pub written : writeAnswer (idOf (plan .encoding)) column (length scratch) (length output) ≡ Accepted (length (chunkOf (plan .encoding) column))
