@@ -79,13 +79,13 @@ ifAvailable false n = 0
 -- "Dictionary needs at most 16,384 distinct values, Delta at least two values; the other five need nothing to be available."
 unfoldable pub estimatesFrom : IntegerStats → List ℤ → SizeEstimates
 estimatesFrom r entries =
-    let few = isExact (r .cardinality) in
-    let two = leb 2 (r .count) in
+    let fewDistinct = isExact (r .cardinality) in
+    let twoValues = leb 2 (r .count) in
     record {
       lengths =
           plainEstimate r ∷ varintEstimate r ∷ bitPackedEstimate r ∷ frameEstimate r ∷ runLengthEstimate r
-          ∷ ifAvailable few (dictionaryEstimate r entries) ∷ ifAvailable two (deltaEstimate r) ∷ [];
-      available = true ∷ true ∷ true ∷ true ∷ true ∷ few ∷ two ∷ [];
+          ∷ ifAvailable fewDistinct (dictionaryEstimate r entries) ∷ ifAvailable twoValues (deltaEstimate r) ∷ [];
+      available = true ∷ true ∷ true ∷ true ∷ true ∷ fewDistinct ∷ twoValues ∷ [];
     }
 
 -- the estimates of a column

@@ -11,7 +11,7 @@ use Rattle.format.specs.Digits.{ofDigits, digits}
 unfoldable pub packedLen : ℕ → ℕ → ℕ
 packedLen count w = (count * w + 7) / 8
 
--- "Packing puts value i at bit i·width, lowest bit of a byte first, spare top bits zero. Packing drops bits above the width."
+-- "Packing puts value i at bit i·width, lowest bit of a byte first, spare top bits zero." "Packing drops bits above the width"
 unfoldable pub packed : ℕ → List ℕ → List ℕ
 packed w vs = digits 256 (packedLen (length vs) w) (ofDigits (2 ^ w) (map (λ v. v % 2 ^ w) vs))
 

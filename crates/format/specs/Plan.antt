@@ -24,15 +24,15 @@ use Rattle.format.specs.declared.PlanAnswer.{PlanAnswer}
 -- ---- the best candidate
 
 -- e before b: it is available, and its length is less; "equal, the lower `decode_cost_rank`"
-unfoldable pub beats : SizeEstimates → Encoding → Encoding → Bool
-beats es e b =
+unfoldable pub better : SizeEstimates → Encoding → Encoding → Bool
+better es e b =
     availableIn es e
     && (ltb (lengthIn es e) (lengthIn es b) || (eqb (lengthIn es e) (lengthIn es b) && ltb (decodeCostRank e) (decodeCostRank b)))
 
 -- "the least length of an available candidate; equal, the lower `decode_cost_rank`; equal, the earlier": a walk in which b is the best so far
 unfoldable pub bestFrom : SizeEstimates → Encoding → List Encoding → Encoding
 bestFrom es b [] = b
-bestFrom es b (e ∷ rest) = bestFrom es (cond (beats es e b) e b) rest
+bestFrom es b (e ∷ rest) = bestFrom es (cond (better es e b) e b) rest
 
 -- Plain is always available, and the earliest
 unfoldable pub best : SizeEstimates → Encoding
@@ -43,7 +43,7 @@ best es = bestFrom es Plain encodings
 abbrev pub asFloat : ℕ → Float
 asFloat n = ofInt binary64 (pos n)
 
--- "Gain is 0.20 at levels 1 to 3, 0.05 at 4 to 6, 0.01 above": each the f64 that is nearest to the fraction
+-- "Gain is 0.20 at levels 1 to 3, 0.05 at 4 to 6, 0.01 above": each the f64 that is nearest to the fraction. It is not asked at level 0
 unfoldable pub minimumGain : ℕ → Float
 minimumGain level = cond (leb level 3) (round binary64 false 20 100) (cond (leb level 6) (round binary64 false 5 100) (round binary64 false 1 100))
 
@@ -66,7 +66,7 @@ reasonOf level count es b =
     (cond (not (eqb (idOf b) 1) && not (meetsGain level (lengthIn es Plain) (lengthIn es b))) GainBelowThreshold
     SmallestEstimate))
 
--- Plain, for every reason but the last
+-- Plain, for every reason but SmallestEstimate
 abbrev pub encodingFor : PlanReason → Encoding → Encoding
 encodingFor Empty b = Plain
 encodingFor CompressionDisabled b = Plain

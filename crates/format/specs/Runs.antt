@@ -39,7 +39,7 @@ runBody column = uvarintBytes (length (runs column)) ++ runBytes (runs column)
 
 -- ---- reading
 
--- A walk from `at` on: `n` runs are still to come, and `left` values. "length at most what is left? 15; just after that varint. Lengths sum to
+-- A walk from `at` on: `n` runs are still to come, and `left` values. "length at most what is left? 15; both just after that varint. Lengths sum to
 -- count? 16, at 0."
 unfoldable pub validateRuns : List ℕ → ℕ → ℕ → ℕ → Option ℕ → Outcome Extent
 validateRuns s at zero left padded = do
@@ -51,7 +51,7 @@ validateRuns s at (suc n) left padded = do
   _ ← check (leb (times .value) left) 15 (times .next)
   validateRuns s (times .next) n (left - times .value) (firstPadded (firstPadded padded at (key .unpadded)) (key .next) (times .unpadded))
 
--- reading, from the body's start on: "Runs at most count? 14; just after that varint."
+-- reading, from the body's start on: "Runs at most count? 14; .. both just after that varint."
 unfoldable pub validateRunLength : List ℕ → ℕ → ℕ → Option ℕ → Outcome Extent
 validateRunLength s start count padded = do
   n ← readUvarint s start

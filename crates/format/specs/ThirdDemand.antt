@@ -9,6 +9,7 @@ use lib.IntN.{ℤ}
 use lib.ListN.{length, take}
 use Rattle.format.specs.Keys.{Keys}
 use Rattle.format.specs.Encodings.{idOf, maxChunkElements}
+use Rattle.format.specs.Answers.{countOf}
 use Rattle.format.specs.Header.{Naming, unnamed, named}
 use Rattle.format.specs.Distinct.{cappedDistinct, scratchNeeded}
 use Rattle.format.specs.Chunk.{chunkOf}
@@ -17,23 +18,27 @@ use Rattle.format.specs.Read.{readAnswer, readColumn}
 use Rattle.format.specs.Estimates.{lengthIn, availableIn}
 use Rattle.format.specs.Plan.{planOf, planAnswer, meetsGain}
 use Rattle.format.specs.declared.Encoding.{Encoding}
-use Rattle.format.specs.declared.Encoding.the-variants.{Plain, DeltaBinaryPacked}
+use Rattle.format.specs.declared.Encoding.the-variants.{Plain, Dictionary, DeltaBinaryPacked}
 use Rattle.format.specs.declared.PlanReason.the-variants.{GainBelowThreshold}
 use Rattle.format.specs.declared.EncodingPlan.{EncodingPlan}
 use Rattle.format.specs.declared.Answer.the-variants.{Accepted}
 
 -- "named by that encoding or not"
 pub data NamedFor (encoding : Encoding) : Naming → Type 0 where
-  not-named : NamedFor encoding unnamed
-  named-so : NamedFor encoding (named (idOf encoding))
+  unnamed-reading : NamedFor encoding unnamed
+  named-reading : NamedFor encoding (named (idOf encoding))
 
--- "the bytes that writing stored": so many bytes at the output's front
+-- "the bytes that writing stored": as many at the output's front as writing answers
 abbrev pub chunkStored : Encoding → List ℤ → List ℤ → List ℕ → List ℕ
 chunkStored encoding column scratch output =
-    take (length (chunkOf encoding column)) (writeOutput (idOf encoding) column (length scratch) output)
+    take (countOf (writeAnswer (idOf encoding) column (length scratch) (length output))) (writeOutput (idOf encoding) column (length scratch) output)
 
--- What is claimed of a column that is planned at a level with a scratch lent, `lent`, then written in that plan's encoding with a scratch and an output
--- lent, then read from the bytes that writing stored with a column buffer lent. `plan` is the plan made.
+-- "the scratch that 01 names" for writing: only "For Dictionary"
+abbrev pub WritingScratch : List ℤ → Encoding → ℕ → Type 0
+WritingScratch column encoding room = encoding ≡ Dictionary → scratchNeeded column ≤ room
+
+-- What is claimed of a column that is planned at a level with a scratch lent, `lent`, then written in that plan's encoding with a scratch, `scratch`, and an
+-- output lent, then read from the bytes that writing stored with a column buffer lent. `plan` is the plan made.
 pub record RoundTrip
     (column : List ℤ) (level : ℕ) (lent : List ℤ) (plan : EncodingPlan) (scratch : List ℤ) (output : List ℕ) (buffer : List ℤ) : Type 0 where
   -- "None of this is refused": planning answers with the count of distinct values that it stored, writing with the length of the column's chunk,
@@ -52,7 +57,7 @@ pub record RoundTrip
   pub not-above-plain : length (chunkOf (plan .encoding) column) ≤ length (chunkOf Plain column)
   -- "The bytes of any other chunk are the count that writing this column in that encoding answers, where lent enough."
   pub others :
-      (e : Encoding) → availableIn (plan .estimates) e ≡ true → (room space : ℕ) → scratchNeeded column ≤ room → length (chunkOf e column) ≤ space
+      (e : Encoding) → availableIn (plan .estimates) e ≡ true → (room space : ℕ) → WritingScratch column e room → length (chunkOf e column) ≤ space
       → writeAnswer (idOf e) column room space ≡ Accepted (length (chunkOf e column))
   -- "At levels 1 to 9 the column's chunk in every available encoding but delta has at least as many bytes as the estimate, and delta's own estimate,
   -- where delta is available, is at least that too; save where plain was kept for too little gain"
@@ -77,7 +82,7 @@ pub record ThirdDemand : Type 0 where
   pub holds :
       (column : List ℤ) → Keys column → length column ≤ maxChunkElements → (level : ℕ) → level ≤ 9
       → (lent : List ℤ) → scratchNeeded column ≤ length lent
-      → (scratch : List ℤ) → scratchNeeded column ≤ length scratch
+      → (scratch : List ℤ) → WritingScratch column (planOf level column .encoding) (length scratch)
       → (output : List ℕ) → planOf level column .«estimated_bytes» ≤ length output
       → (buffer : List ℤ) → length column ≤ length buffer
       → RoundTrip column level lent (planOf level column) scratch output buffer

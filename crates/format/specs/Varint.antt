@@ -26,7 +26,7 @@ continued [] = []
 continued (g ∷ []) = g ∷ []
 continued (g ∷ h ∷ gs) = (g + 128) ∷ continued (h ∷ gs)
 
--- "7-bit groups, lowest first, top bit set on all but the last byte. Written shortest"
+-- "7-bit groups, lowest first, top bit set on all but the last byte." "Written shortest"
 unfoldable pub uvarintBytes : ℕ → List ℕ
 uvarintBytes x = continued (digits 128 (uvarintLen x) x)
 
@@ -50,7 +50,7 @@ uvarintEnd start (suc left) (b ∷ rest) at = cond (ltb b 128) (ok (at + 1)) (uv
 unfoldable pub uvarintValue : List ℕ → ℕ → ℕ → ℕ
 uvarintValue s from to = ofDigits 128 (map (λ b. b % 128) (slice from to s)) % 2 ^ 64
 
--- "does every varint read end on a nonzero byte, or have one byte?": no group was added that is 0
+-- "does every varint read end on a nonzero byte, or have one byte?": its last byte is not 0, unless it is the only one
 unfoldable pub endsUnpadded : List ℕ → ℕ → ℕ → Bool
 endsUnpadded s from to = eqb to (from + 1) || not (eqb (getD s (to - 1) 0) 0)
 

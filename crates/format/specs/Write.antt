@@ -25,7 +25,7 @@ forDictionary other this RunLength = other
 forDictionary other this Dictionary = this
 forDictionary other this DeltaBinaryPacked = other
 
--- The questions before the scratch is written: "encoding 1 to 7? 2, at 0. At most 2^24 values? 21. For Dictionary: scratch of min(count, 16,384)? 22."
+-- The questions before the scratch is written: "encoding 1 to 7? 2, at 0. At most 2^24 values? 21. For Dictionary: scratch of min(count, 16,384)? 22"
 -- They find the encoding with that number.
 unfoldable pub writeChecks : ℕ → List ℤ → ℕ → Outcome Encoding
 writeChecks number column room = do

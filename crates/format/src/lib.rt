@@ -1,6 +1,7 @@
-// The types of the format's answers (document 01, "Questions at the counter" and "Statistics, estimates, plan"), and the
-// numbers of its refusals. There is no function here: what the calls answer is defined in specs/, over these types.
+// The types of the format's answers (document 01, "Questions at the counter" and "Statistics, estimates, plan"), the numbers
+// of its refusals, and its limits. There is no function here: what the calls answer is defined in specs/, over these types.
 
+pub mod limits;
 pub mod refusal;
 
 // The seven integer encodings, in the order of their ids, 1 to 7.
@@ -21,7 +22,7 @@ pub enum Sortedness {
     Unsorted,
 }
 
-// The number of distinct values, or a number that they exceed or reach.
+// The number of distinct values, or a number that there are at least.
 pub enum Cardinality {
     Exact(usize),
     AtLeast(usize),

@@ -1,5 +1,6 @@
 // The numbers of the refusals (document 01, "Questions at the counter"). The definitions in specs/ have the numbers
-// themselves, as document 01 has them; code names them by these constants.
+// themselves, as document 01 has them; code names them by these constants, and a wrong one fails the proof of each
+// function that uses it.
 
 // Reading: the header.
 pub const UNKNOWN_ID: u32 = 1;

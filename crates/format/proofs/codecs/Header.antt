@@ -11,7 +11,7 @@ use Rattle.format.specs.Outcome.{ok}
 use Rattle.format.specs.Varint.{uvarintBytes, readUvarint}
 use Rattle.format.specs.Encodings.{idOf, maxChunkElements}
 use Rattle.format.specs.Header.{headerBytes, headerLen, Naming, unnamed, named, readId, Header, readHeader}
-use Rattle.format.specs.ThirdDemand.{NamedFor, not-named, named-so}
+use Rattle.format.specs.ThirdDemand.{NamedFor, unnamed-reading, named-reading}
 use Rattle.format.specs.declared.Encoding.{Encoding}
 use Rattle.format.proofs.numbers.Uvarints.{length-uvarintBytes, uvarintWritten, readUvarint-back}
 use Rattle.format.proofs.codecs.Encodings.{idOf-low, idOf-high}
@@ -53,7 +53,7 @@ module _ (id count : ℕ) (rest : List ℕ) (low : 1 ≤ id) (high : id ≤ 7) w
 pub readHeader-back :
     (e : Encoding) (count : ℕ) (rest : List ℕ) (naming : Naming) → NamedFor e naming → count ≤ maxChunkElements
     → readHeader naming (headerBytes (idOf e) count ++ rest) ≡ ok (headerWritten (idOf e) count)
-readHeader-back e count rest naming not-named h =
+readHeader-back e count rest naming unnamed-reading h =
     header-with (idOf e) count rest (idOf-low e) (idOf-high e) unnamed (id-unnamed (idOf e) count rest (idOf-low e) (idOf-high e)) h
-readHeader-back e count rest naming named-so h =
+readHeader-back e count rest naming named-reading h =
     header-with (idOf e) count rest (idOf-low e) (idOf-high e) (named (idOf e)) (id-named (idOf e) count rest (idOf-low e) (idOf-high e)) h

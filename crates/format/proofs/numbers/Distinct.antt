@@ -2,10 +2,10 @@
 -- values, and that they rise. Each law is one of `insert`, which adds one value at most and none that is there, followed along the walk.
 use mathlib.Core.Path.{_≡_, refl, sym, ap, _∙_}
 use Prim.Native.Nat.{suc, _+_, min, _≤_, _<_}
-use native.Mathlib.Nat.{le-refl, le-trans}
+use native.Mathlib.Nat.{le-refl, le-trans, le-of-eq}
 use native.Mathlib.Omega.{arith}
 use mathlib.Core.Bool.{Bool, true, false, cond}
-use mathlib.Core.List.{List, [], _∷_}
+use mathlib.Core.List.{List, [], _∷_, _++_}
 use lib.IntN.{ℤ}
 use lib.Dec.{ltb}
 use lib.Signed.{ltZ}
@@ -139,6 +139,20 @@ length-cappedDistinctFrom held (v ∷ vs) h = go (ltb (length held) maxDictionar
 pub length-cappedDistinct : (column : List ℤ) → length (cappedDistinct column) ≡ min maxDictionaryCardinality (length (distinct column))
 unfolding cappedDistinct distinct
 length-cappedDistinct column = length-cappedDistinctFrom [] column (omega arith)
+
+-- "the first 16,384 met": once the front of a column has 16,384, what comes after it adds none
+cappedDistinctFrom-append :
+    (held xs ys : List ℤ) → cappedDistinctFrom held (xs ++ ys) ≡ cappedDistinctFrom (cappedDistinctFrom held xs) ys
+unfolding cappedDistinctFrom
+cappedDistinctFrom-append held [] ys = refl
+cappedDistinctFrom-append held (x ∷ xs) ys = cappedDistinctFrom-append (cond (ltb (length held) maxDictionaryCardinality) (insert x held) held) xs ys
+
+pub cappedDistinct-first : (xs ys : List ℤ) → length (distinct xs) ≡ maxDictionaryCardinality → cappedDistinct (xs ++ ys) ≡ distinct xs
+unfolding cappedDistinct
+cappedDistinct-first xs ys full =
+    cappedDistinctFrom-append [] xs ys
+    ∙ ap (λ (held : List ℤ). cappedDistinctFrom held ys) (cappedDistinct-all xs (le-of-eq full))
+    ∙ cappedDistinctFrom-full (distinct xs) ys (le-of-eq (sym full))
 
 -- so a scratch of the size that is asked for has room for them
 pub cappedDistinct-most : (column : List ℤ) → length (cappedDistinct column) ≤ min (length column) maxDictionaryCardinality

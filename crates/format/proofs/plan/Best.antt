@@ -13,7 +13,7 @@ use borrow.Author.Tests.{ltb-true, ltb-false, lt-ltb, le-ltb, eq-eqb, ne-eqb}
 use lib.Dec.{ltb, eqb, lit≤}
 use Rattle.format.specs.Encodings.{idOf, encodings, decodeCostRank}
 use Rattle.format.specs.Estimates.{lengthIn, availableIn}
-use Rattle.format.specs.Plan.{beats, bestFrom, best}
+use Rattle.format.specs.Plan.{better, bestFrom, best}
 use Rattle.format.specs.declared.Encoding.{Encoding}
 use Rattle.format.specs.declared.Encoding.the-variants.{Plain, Varint, BitPacked, FrameOfReference, RunLength, Dictionary, DeltaBinaryPacked}
 use Rattle.format.specs.declared.SizeEstimates.{SizeEstimates}
@@ -42,24 +42,24 @@ lexicographic l m r s R S = go (decLt l m) (decLt m l)
     go (no less) (yes more) = rw (le-ltb l m (omega arith), ne-eqb l m (omega arith)) (sym (le-ltb (l * 8 + r) (m * 8 + s) (omega arith)))
     go (no less) (no more) = rw (le-ltb l m (omega arith), eq-eqb l m (omega arith)) (by-rank (omega arith) (ltb r s) refl)
 
--- so e beats b exactly if it is available and costs less
-beats-cost : (es : SizeEstimates) (e b : Encoding) → beats es e b ≡ (availableIn es e && ltb (cost es e) (cost es b))
-unfolding beats
-beats-cost es e b =
+-- so e better b exactly if it is available and costs less
+better-cost : (es : SizeEstimates) (e b : Encoding) → better es e b ≡ (availableIn es e && ltb (cost es e) (cost es b))
+unfolding better
+better-cost es e b =
     ap (λ (t : Bool). availableIn es e && t)
     (lexicographic (lengthIn es e) (lengthIn es b) (decodeCostRank e) (decodeCostRank b) (rank-small e) (rank-small b))
 
 -- where it does,
-beats-true : (es : SizeEstimates) (e b : Encoding) → beats es e b ≡ true → (availableIn es e ≡ true) × (cost es e < cost es b)
-beats-true es e b h = go (availableIn es e) (rw beats-cost at h)
+better-true : (es : SizeEstimates) (e b : Encoding) → better es e b ≡ true → (availableIn es e ≡ true) × (cost es e < cost es b)
+better-true es e b h = go (availableIn es e) (rw better-cost at h)
   where
     go : (t : Bool) → (t && ltb (cost es e) (cost es b)) ≡ true → (t ≡ true) × (cost es e < cost es b)
     go true k = (refl, ltb-true (cost es e) (cost es b) k)
     go false k = absurd (false≢true k)
 
 -- and where it does not, though it is available
-beats-false : (es : SizeEstimates) (e b : Encoding) → beats es e b ≡ false → availableIn es e ≡ true → cost es b ≤ cost es e
-beats-false es e b h there = ltb-false (cost es e) (cost es b) (rw (beats-cost, there) at h)
+better-false : (es : SizeEstimates) (e b : Encoding) → better es e b ≡ false → availableIn es e ≡ true → cost es b ≤ cost es e
+better-false es e b h there = ltb-false (cost es e) (cost es b) (rw (better-cost, there) at h)
 
 -- ---- the search
 
@@ -79,12 +79,12 @@ record BestAmong (es : SizeEstimates) (b : Encoding) (l : List Encoding) (found 
   not-after-b : order es found ≤ order es b
   not-after : (e : Encoding) → Among e l → availableIn es e ≡ true → order es found ≤ order es e
 
--- e beats b, so the best of e and the rest is the best of b, e and the rest
+-- e better b, so the best of e and the rest is the best of b, e and the rest
 best-taken :
-    (es : SizeEstimates) (b e : Encoding) (l : List Encoding) (found : Encoding) → beats es e b ≡ true
+    (es : SizeEstimates) (b e : Encoding) (l : List Encoding) (found : Encoding) → better es e b ≡ true
     → BestAmong es e l found → BestAmong es b (e ∷ l) found
 best-taken es b e l found t h =
-    let less : (availableIn es e ≡ true) × (cost es e < cost es b) = beats-true es e b t in
+    let less : (availableIn es e ≡ true) × (cost es e < cost es b) = better-true es e b t in
     record {
       available-too = λ there. h .available-too (less .0);
       not-after-b = le-trans (h .not-after-b) (omega (arith, less .1, idOf-high e));
@@ -96,7 +96,7 @@ best-taken es b e l found t h =
 
 -- e does not beat b, which has no later id, so the best of b and the rest is the best of b, e and the rest
 best-passed :
-    (es : SizeEstimates) (b e : Encoding) (l : List Encoding) (found : Encoding) → beats es e b ≡ false → idOf b ≤ idOf e
+    (es : SizeEstimates) (b e : Encoding) (l : List Encoding) (found : Encoding) → better es e b ≡ false → idOf b ≤ idOf e
     → BestAmong es b l found → BestAmong es b (e ∷ l) found
 best-passed es b e l found t earlier h =
     record {
@@ -104,7 +104,7 @@ best-passed es b e l found t earlier h =
       not-after-b = h .not-after-b;
       not-after = λ d m there. elim m [
         | inl p ↦
-            let cheaper : cost es b ≤ cost es e = beats-false es e b t (subst (λ (x : Encoding). availableIn es x ≡ true) (sym p) there) in
+            let cheaper : cost es b ≤ cost es e = better-false es e b t (subst (λ (x : Encoding). availableIn es x ≡ true) (sym p) there) in
             le-trans (h .not-after-b) (subst (λ (x : Encoding). order es b ≤ order es x) p (omega arith))
         | inr n ↦ h .not-after d n there
       ];
@@ -115,9 +115,9 @@ bestFrom-best : (es : SizeEstimates) (b : Encoding) {i : ℕ} {l : List Encoding
 unfolding bestFrom
 bestFrom-best es b h none = record { available-too = λ there. there; not-after-b = le-refl _; not-after = λ e m there. absurd m }
 bestFrom-best es b h (more {e = e} {l = l} k r) =
-    go (beats es e b) refl (bestFrom-best es e (le-refl _) r) (bestFrom-best es b (le-trans h k) r)
+    go (better es e b) refl (bestFrom-best es e (le-refl _) r) (bestFrom-best es b (le-trans h k) r)
   where
-    go : (t : Bool) → beats es e b ≡ t → BestAmong es e l (bestFrom es e l) → BestAmong es b l (bestFrom es b l)
+    go : (t : Bool) → better es e b ≡ t → BestAmong es e l (bestFrom es e l) → BestAmong es b l (bestFrom es b l)
         → BestAmong es b (e ∷ l) (bestFrom es (cond t e b) l)
     go true t from-e from-b = best-taken es b e l (bestFrom es e l) t from-e
     go false t from-e from-b = best-passed es b e l (bestFrom es b l) t (le-trans h k) from-b

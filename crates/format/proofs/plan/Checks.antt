@@ -18,7 +18,7 @@ use Rattle.format.specs.Statistics.{analysisChecks}
 use Rattle.format.specs.Estimates.{estimatesOf, availableIn}
 use Rattle.format.specs.Write.{forDictionary, writeChecks, writeOutcome, writeAnswer, writeOutput}
 use Rattle.format.specs.Plan.{planOf, planChecks, planAnswer}
-use Rattle.format.specs.ThirdDemand.{chunkStored}
+use Rattle.format.specs.ThirdDemand.{chunkStored, WritingScratch}
 use Rattle.format.specs.declared.Encoding.{Encoding}
 use Rattle.format.specs.declared.Encoding.the-variants.{Plain, Varint, BitPacked, FrameOfReference, RunLength, Dictionary, DeltaBinaryPacked}
 use Rattle.format.specs.declared.Answer.the-variants.{Accepted}
@@ -74,7 +74,7 @@ forDictionary-ok asked RunLength h = refl
 forDictionary-ok asked Dictionary h = h refl
 forDictionary-ok asked DeltaBinaryPacked h = refl
 
-module _ (e : Encoding) (column : List ℤ) (room : ℕ) (size : length column ≤ maxChunkElements) (enough : scratchNeeded column ≤ room) where
+module _ (e : Encoding) (column : List ℤ) (room : ℕ) (size : length column ≤ maxChunkElements) (enough : WritingScratch column e room) where
   -- "encoding 1 to 7? 2, at 0. At most 2^24 values? 21. For Dictionary: scratch of min(count, 16,384)? 22": all yes
   writeChecks-ok : writeChecks (idOf e) column room ≡ ok e
   unfolding writeChecks
@@ -83,7 +83,7 @@ module _ (e : Encoding) (column : List ℤ) (room : ℕ) (size : length column �
         id-within e,
         le-leb (length column) maxChunkElements size,
         encodingOf-id e,
-        forDictionary-ok (scratchCheck column room) e (λ p. scratchCheck-ok column room enough),
+        forDictionary-ok (scratchCheck column room) e (λ p. scratchCheck-ok column room (enough p)),
       )
 
   -- "at most 16,384 distinct? 23. Output long enough? 20": yes, so the chunk is found
@@ -104,7 +104,7 @@ available-few column e there p =
 -- an available encoding is written, where enough is lent: the answer is accepted,
 pub writeAnswer-accepted :
     (e : Encoding) (column : List ℤ) (room space : ℕ) → length column ≤ maxChunkElements → availableIn (estimatesOf column) e ≡ true
-    → scratchNeeded column ≤ room → length (chunkOf e column) ≤ space → writeAnswer (idOf e) column room space ≡ Accepted (length (chunkOf e column))
+    → WritingScratch column e room → length (chunkOf e column) ≤ space → writeAnswer (idOf e) column room space ≡ Accepted (length (chunkOf e column))
 unfolding writeAnswer
 writeAnswer-accepted e column room space size there enough fits =
     ap storedAnswer (writeOutcome-ok e column room size enough space (available-few column e there) fits)
@@ -112,7 +112,7 @@ writeAnswer-accepted e column room space size there enough fits =
 -- the chunk is stored in the output,
 pub writeOutput-stored :
     (e : Encoding) (column : List ℤ) (room : ℕ) (output : List ℕ) → length column ≤ maxChunkElements → availableIn (estimatesOf column) e ≡ true
-    → scratchNeeded column ≤ room → length (chunkOf e column) ≤ length output → writeOutput (idOf e) column room output ≡ stored (chunkOf e column) output
+    → WritingScratch column e room → length (chunkOf e column) ≤ length output → writeOutput (idOf e) column room output ≡ stored (chunkOf e column) output
 unfolding writeOutput
 writeOutput-stored e column room output size there enough fits =
     ap (λ o. bufferAfter o output) (writeOutcome-ok e column room size enough (length output) (available-few column e there) fits)
@@ -120,6 +120,10 @@ writeOutput-stored e column room output size there enough fits =
 -- and "the bytes that writing stored" are the chunk
 pub chunkStored-chunk :
     (e : Encoding) (column scratch : List ℤ) (output : List ℕ) → length column ≤ maxChunkElements → availableIn (estimatesOf column) e ≡ true
-    → scratchNeeded column ≤ length scratch → length (chunkOf e column) ≤ length output → chunkStored e column scratch output ≡ chunkOf e column
+    → WritingScratch column e (length scratch) → length (chunkOf e column) ≤ length output → chunkStored e column scratch output ≡ chunkOf e column
 chunkStored-chunk e column scratch output size there enough fits =
-    rw (writeOutput-stored e column (length scratch) output size there enough fits) (take-stored (chunkOf e column) output)
+    rw (
+      writeAnswer-accepted e column (length scratch) (length output) size there enough fits,
+      writeOutput-stored e column (length scratch) output size there enough fits,
+    )
+    (take-stored (chunkOf e column) output)

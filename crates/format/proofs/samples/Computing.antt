@@ -24,7 +24,7 @@ use Rattle.format.specs.Write.{writeChecks, writeOutcome, writeAnswer, w
 use Rattle.format.specs.Standalone.{packedLenAnswer, packOutcome, packAnswer, packOutput, unpackOutcome, unpackAnswer, unpackBuffer, uvarintAnswer, varintAnswer, uvarintWriteOutcome, uvarintWriteAnswer, uvarintWriteOutput, varintWriteAnswer, varintWriteOutput}
 use Rattle.format.specs.Statistics.{nonDecreasing, nonIncreasing, sortednessOf, cardinalityOf, runLen, statsOf, refusedStats, analysisChecks, statsAnswer, analysisScratch, distinctValues, distinctValuesPart}
 use Rattle.format.specs.Estimates.{gapsLen, entriesLen, plainEstimate, varintEstimate, bitPackedEstimate, frameEstimate, runLengthEstimate, dictionaryEstimate, deltaEstimate, estimatesFrom, estimatesOf, lengthIn, availableIn, refusedEstimates, estimatesAnswer}
-use Rattle.format.specs.Plan.{beats, bestFrom, best, minimumGain, threshold, meetsGain, reasonOf, runDensity, estimatedRatio, planFrom, planOf, refusedPlan, planChecks, planAnswer, planScratch}
+use Rattle.format.specs.Plan.{better, bestFrom, best, minimumGain, threshold, meetsGain, reasonOf, runDensity, estimatedRatio, planFrom, planOf, refusedPlan, planChecks, planAnswer, planScratch}
 
 -- numbers and bytes
 unfoldable pub numbers-compute : Unit {0}
@@ -59,7 +59,7 @@ unfolding
     writing-computes nonDecreasing nonIncreasing sortednessOf cardinalityOf runLen statsOf refusedStats analysisChecks statsAnswer analysisScratch
     distinctValues distinctValuesPart gapsLen entriesLen plainEstimate varintEstimate bitPackedEstimate frameEstimate runLengthEstimate dictionaryEstimate
     deltaEstimate estimatesFrom estimatesOf lengthIn availableIn refusedEstimates estimatesAnswer
-    beats bestFrom best minimumGain threshold meetsGain reasonOf runDensity estimatedRatio planFrom planOf refusedPlan planChecks planAnswer planScratch
+    better bestFrom best minimumGain threshold meetsGain reasonOf runDensity estimatedRatio planFrom planOf refusedPlan planChecks planAnswer planScratch
     trailingZeros round size span climb units odd ofInt sub add sum neg mul div lt
 planning-computes = tt
 

@@ -2,38 +2,38 @@
 -- with the buffer's, and question 22 asks for a scratch with room for the distinct values. Reading compares the header's count instead of the length of what it
 -- stores, and answers with it; both are the same by Counts.
 use mathlib.Core.Path.{_≡_, refl, sym, ap}
-use mathlib.Core.Bool.{Bool, not}
-use mathlib.Core.List.{List}
+use mathlib.Core.Bool.{Bool, true, false, not, cond}
+use mathlib.Core.List.{List, []}
 use Prim.Native.Nat.{ℕ, _≤_}
 use native.Mathlib.Nat.{le-trans}
 use native.Mathlib.Omega.{arith}
 use borrow.Author.Tests.{leb-true}
 use lib.IntN.{ℤ}
 use lib.Dec.{leb}
-use lib.ListN.{length}
+use lib.ListN.{length, take}
 use Rattle.format.specs.Outcome.{Outcome, refused, ok, check, _>>=_}
 use Rattle.format.specs.Keys.{zigzag}
 use Rattle.format.specs.Varint.{uvarintLen, uvarintBytes}
 use Rattle.format.specs.Packing.{packedLen, packed, unpacked, packedEnd}
 use Rattle.format.specs.Encodings.{encodingOf, within, maxChunkElements}
-use Rattle.format.specs.Answers.{answerOf, storedAnswer, bufferAfter}
+use Rattle.format.specs.Answers.{answerOf, storedAnswer, bufferAfter, stored}
 use Rattle.format.specs.Header.{Naming}
-use Rattle.format.specs.Distinct.{tooManyDistinct, cappedDistinct, scratchNeeded, scratchCheck, collected}
+use Rattle.format.specs.Distinct.{tooManyDistinct, cappedDistinct, scratchNeeded, scratchCheck, collected, distinct}
 use Rattle.format.specs.Chunk.{chunkOf}
 use Rattle.format.specs.Read.{Validated, validate, strictChecks, readOutcome, valuesOf, readAnswer, readColumn}
 use Rattle.format.specs.Write.{forDictionary, writeChecks, writeOutcome, writeOutput, scratchAfterChecks, writeScratch}
 use Rattle.format.specs.Standalone.{packOutcome, packOutput, unpackOutcome, unpackBuffer, uvarintWriteOutcome, uvarintWriteOutput, varintWriteOutput}
-use Rattle.format.specs.Statistics.{analysisChecks, scratchAfter, analysisScratch}
+use Rattle.format.specs.Statistics.{analysisChecks, scratchAfter, analysisScratch, distinctValuesPart, distinctValues, distinctAfterChecks}
 use Rattle.format.specs.Plan.{planChecks, planScratch}
 use Rattle.format.specs.declared.Answer.the-variants.{Accepted}
 use Rattle.format.specs.declared.Encoding.{Encoding}
 use Rattle.format.specs.declared.Encoding.the-variants.{Plain, Varint, BitPacked, FrameOfReference, RunLength, Dictionary, DeltaBinaryPacked}
 use Rattle.format.proofs.numbers.Packing.{length-packed}
 use Rattle.format.proofs.numbers.Uvarints.{length-uvarintBytes}
-use Rattle.format.proofs.numbers.Distinct.{cappedDistinct-most}
+use Rattle.format.proofs.numbers.Distinct.{cappedDistinct-most, cappedDistinct-all, few-distinct}
 use Rattle.format.proofs.codecs.Outcome.{both-passed, check-passed}
 use Rattle.format.proofs.codecs.Counts.{length-unpacked, values-count}
-use Rattle.format.proofs.plan.Checks.{length-stored}
+use Rattle.format.proofs.plan.Checks.{length-stored, take-stored}
 
 -- ---- buffers that are filled from the front
 
@@ -183,3 +183,23 @@ module _ (column scratch : List ℤ) where
           both-passed (forDictionary (ok tt) (scratchCheck column (length scratch)) (encodingOf number)) _ h₂ λ _ lent h₃.
           let same : encodingOf number ≡ e = cc in
           rw (← same) (length-forDictionary (encodingOf number) lent)
+
+-- ---- the distinct values handed back
+
+-- "The distinct values are handed back as a part of the scratch": they are its front after the call
+part-front : (o : Outcome (Unit {0})) (column scratch : List ℤ)
+    → take (length (distinctAfterChecks o column)) (scratchAfter o column scratch) ≡ distinctAfterChecks o column
+unfolding distinctValues collected
+part-front (refused number offset) column scratch = refl
+part-front (ok done) column scratch = go (tooManyDistinct column) refl
+  where
+    go : (t : Bool) → tooManyDistinct column ≡ t
+        → take (length (cond t [] (distinct column))) (stored (cappedDistinct column) scratch) ≡ cond t [] (distinct column)
+    go true e = refl
+    go false e = rw (cappedDistinct-all column (few-distinct column e)) (take-stored (distinct column) scratch)
+
+pub distinctValues-part :
+    (column scratch : List ℤ)
+    → take (length (distinctValuesPart column (length scratch))) (analysisScratch column scratch) ≡ distinctValuesPart column (length scratch)
+unfolding distinctValuesPart analysisScratch
+distinctValues-part column scratch = part-front (analysisChecks column (length scratch)) column scratch

@@ -21,4 +21,4 @@ pub third-one-scratch :
     → RoundTrip column level lent (planOf level column) (planScratch level column lent) output buffer
 third-one-scratch column keys size level level-most lent lent-room output output-room buffer buffer-room =
     let room : scratchNeeded column ≤ length (planScratch level column lent) = rw (length-planScratch column lent level) lent-room in
-    third .holds column keys size level level-most lent lent-room (planScratch level column lent) room output output-room buffer buffer-room
+    third .holds column keys size level level-most lent lent-room (planScratch level column lent) (λ dictionary. room) output output-room buffer buffer-room

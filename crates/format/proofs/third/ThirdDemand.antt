@@ -12,13 +12,12 @@ use lib.ListN.{length, take}
 use Rattle.format.specs.Keys.{Keys}
 use Rattle.format.specs.Encodings.{idOf, maxChunkElements}
 use Rattle.format.specs.Header.{Naming}
-use Rattle.format.specs.Distinct.{scratchNeeded}
 use Rattle.format.specs.Chunk.{chunkOf}
 use Rattle.format.specs.Write.{writeAnswer}
 use Rattle.format.specs.Read.{readAnswer, readColumn}
 use Rattle.format.specs.Estimates.{estimatesOf, lengthIn, availableIn}
 use Rattle.format.specs.Plan.{planOf, meetsGain}
-use Rattle.format.specs.ThirdDemand.{NamedFor, chunkStored, ThirdDemand}
+use Rattle.format.specs.ThirdDemand.{NamedFor, chunkStored, WritingScratch, ThirdDemand}
 use Rattle.format.specs.declared.Encoding.{Encoding}
 use Rattle.format.specs.declared.Encoding.the-variants.{Plain, DeltaBinaryPacked}
 use Rattle.format.specs.declared.PlanReason.the-variants.{GainBelowThreshold}
@@ -76,7 +75,7 @@ module _ (column : List ℤ) (keys : Keys column) (level : ℕ) where
 -- ---- writing and reading, with the buffers that are lent
 
 module _ (column : List ℤ) (keys : Keys column) (size : length column ≤ maxChunkElements) (level : ℕ)
-    (scratch : List ℤ) (scratch-room : scratchNeeded column ≤ length scratch)
+    (scratch : List ℤ) (scratch-room : WritingScratch column (planned level column) (length scratch))
     (output : List ℕ) (output-room : estimate level column ≤ length output) where
   -- the output has room for the chunk, which has at most the estimated bytes
   planned-fits : length (chunkOf (planned level column) column) ≤ length output
