@@ -1,4 +1,4 @@
--- Every refusal of 01, its number and its offset, on the smallest input that meets it: `refusals`. So a change of a number or an offset in specs/ is refused by the
+-- Every refusal of 01, its number and its offset, on a small input that meets it: `read-refusals`, `other-refusals`. So a change of a number or an offset in specs/ is refused by the
 -- checker. Each line has its question of 01 above it and is proved by computing, but for the lines on long columns, which are laws.
 use mathlib.Core.Path.{_≡_, refl}
 use mathlib.Core.Bool.{true, false}
@@ -85,6 +85,7 @@ pub record ReadRefusals : Type 0 where
   pub no-runs : read (0x05 ∷ 0x01 ∷ 0x01 ∷ 0x00 ∷ []) ≡ Refused 16 0
   -- "Entries at most the bytes left? 17, just after."
   pub entries-over : read (0x06 ∷ 0x01 ∷ 0x00 ∷ 0x02 ∷ 0x00 ∷ []) ≡ Refused 17 4
+  pub entries-equal : read (0x06 ∷ 0x01 ∷ 0x00 ∷ 0x01 ∷ 0x0a ∷ []) ≡ Refused 10 5
   -- "Each code below entries? 18, the width byte's place."
   pub code-over : read (0x06 ∷ 0x01 ∷ 0x02 ∷ 0x01 ∷ 0x0a ∷ 0x01 ∷ 0x02 ∷ []) ≡ Refused 18 5
   pub no-entries : read (0x06 ∷ 0x01 ∷ 0x01 ∷ 0x00 ∷ 0x00 ∷ []) ≡ Refused 18 4
@@ -97,8 +98,11 @@ pub record ReadRefusals : Type 0 where
   pub count-padded : readAnswer true unnamed (0x03 ∷ 0x01 ∷ 0x81 ∷ 0x00 ∷ 0x00 ∷ 0xee ∷ []) 0 ≡ Refused 25 2
   pub value-padded : readAnswer true (named 2) (0x02 ∷ 0x01 ∷ 0x03 ∷ 0x0a ∷ 0x8a ∷ 0x00 ∷ 0x80 ∷ 0x00 ∷ 0xee ∷ []) 0 ≡ Refused 25 4
   pub runs-padded : readAnswer true unnamed (0x05 ∷ 0x01 ∷ 0x01 ∷ 0x81 ∷ 0x00 ∷ 0x0a ∷ 0x81 ∷ 0x00 ∷ []) 0 ≡ Refused 25 3
+  pub run-value-padded : readAnswer true unnamed (0x05 ∷ 0x01 ∷ 0x01 ∷ 0x01 ∷ 0x8a ∷ 0x00 ∷ 0x81 ∷ 0x00 ∷ []) 0 ≡ Refused 25 4
   pub run-padded : readAnswer true unnamed (0x05 ∷ 0x01 ∷ 0x01 ∷ 0x01 ∷ 0x0a ∷ 0x81 ∷ 0x00 ∷ []) 0 ≡ Refused 25 5
+  pub total-padded : readAnswer true unnamed (0x06 ∷ 0x01 ∷ 0x00 ∷ 0x81 ∷ 0x00 ∷ 0x8a ∷ 0x00 ∷ 0x00 ∷ []) 0 ≡ Refused 25 3
   pub entry-padded : readAnswer true unnamed (0x06 ∷ 0x01 ∷ 0x00 ∷ 0x02 ∷ 0x0a ∷ 0x81 ∷ 0x00 ∷ 0x00 ∷ []) 0 ≡ Refused 25 5
+  pub first-padded : readAnswer true unnamed (0x07 ∷ 0x01 ∷ 0x01 ∷ 0x8a ∷ 0x00 ∷ 0x81 ∷ 0x00 ∷ []) 0 ≡ Refused 25 3
   pub size-padded : readAnswer true unnamed (0x07 ∷ 0x01 ∷ 0x01 ∷ 0x0a ∷ 0x81 ∷ 0x00 ∷ []) 0 ≡ Refused 25 4
   pub block-padded : readAnswer true unnamed (0x07 ∷ 0x01 ∷ 0x02 ∷ 0x0a ∷ 0x01 ∷ 0x82 ∷ 0x00 ∷ 0x00 ∷ []) 0 ≡ Refused 25 5
   -- a tenth byte of 02 or more passes 25, being nonzero
@@ -150,6 +154,7 @@ read-refusals =
       runs-short = refl;
       no-runs = refl;
       entries-over = refl;
+      entries-equal = refl;
       code-over = refl;
       no-entries = refl;
       block-size-0 = refl;
@@ -158,8 +163,11 @@ read-refusals =
       count-padded = refl;
       value-padded = refl;
       runs-padded = refl;
+      run-value-padded = refl;
       run-padded = refl;
+      total-padded = refl;
       entry-padded = refl;
+      first-padded = refl;
       size-padded = refl;
       block-padded = refl;
       tenth-passes = refl;

@@ -1,30 +1,38 @@
 -- 01's numbers, computed: the tables of ids and ranks, the limits, the levels' gains, the empty column and one value, what calls store, and the sample sheet's
 -- entries without a ★ that speak of definitions alone: `worked`. So a change of one of these numbers in specs/ is refused by the checker.
-use mathlib.Core.Path.{_≡_, refl}
+use mathlib.Core.Path.{_≡_, refl, ap}
 use mathlib.Core.Bool.{true, false}
 use mathlib.Core.List.{List, [], _∷_, map}
 use Prim.Native.Nat.{ℕ, zero, suc, _^_, _-_, _≤_}
 use lib.IntN.{ℤ, pos, negsuc}
 use lib.ListN.{length}
 use borrow.Author.Tests.{lt-ltb}
+use native.Mathlib.Omega.{arith}
+use lib.Ieee.{binary64, div}
 use Rattle.format.specs.Outcome.{ok}
+use Rattle.format.specs.Answers.{numberOf, offsetOf, countOf}
+use Rattle.format.specs.Folds.{deltas}
+use Rattle.format.specs.Encodings.{maxChunkElements, idOf, encodings, decodeCostRank, maxDictionaryCardinality}
+use Rattle.format.specs.Distinct.{cappedDistinct, scratchNeeded, distinct, tooManyDistinct}
+use Rattle.format.specs.Statistics.{analysisChecks, cardinalityOf, statsOf, refusedStats, statsAnswer, analysisScratch, distinctValuesPart}
+use Rattle.format.specs.Estimates.{refusedEstimates, estimatesAnswer, estimatesOf, lengthIn}
+use Rattle.format.specs.Plan.{refusedPlan, planChecks, planAnswer, asFloat, meetsGain, planOf, planScratch}
+use Rattle.format.specs.Standalone.{uvarintAnswer, varintAnswer, packOutput, unpackBuffer, uvarintWriteOutput}
+use Rattle.format.specs.declared.UvarintAnswer.the-variants.{Read}
+use Rattle.format.specs.declared.VarintAnswer.the-variants.{Read as SignedRead}
+use Rattle.format.proofs.numbers.Distinct.{length-cappedDistinct}
+use Rattle.format.proofs.plan.Checks.{analysisChecks-ok}
 use Rattle.format.specs.Keys.{zigzag}
 use Rattle.format.specs.Width.{width}
 use Rattle.format.specs.Varint.{readUvarint}
-use Rattle.format.specs.Encodings.{idOf, encodings, decodeCostRank, maxDictionaryCardinality}
 use Rattle.format.specs.Header.{unnamed}
-use Rattle.format.specs.Distinct.{distinct, tooManyDistinct}
 use Rattle.format.specs.Chunk.{chunkOf}
 use Rattle.format.specs.Read.{readAnswer, readColumn}
 use Rattle.format.specs.Write.{writeOutput, writeScratch}
-use Rattle.format.specs.Standalone.{packOutput, unpackBuffer, uvarintWriteOutput}
-use Rattle.format.specs.Statistics.{cardinalityOf, statsOf, refusedStats, statsAnswer, analysisScratch, distinctValuesPart}
-use Rattle.format.specs.Estimates.{estimatesOf, lengthIn}
-use Rattle.format.specs.Plan.{asFloat, meetsGain, planOf, planScratch}
 use Rattle.format.specs.declared.Cardinality.the-variants.{Exact, AtLeast}
 use Rattle.format.specs.declared.Sortedness.the-variants.{Constant, Ascending, Descending, Unsorted}
 use Rattle.format.specs.declared.PlanReason.the-variants.{Empty, CompressionDisabled}
-use Rattle.format.specs.declared.Answer.the-variants.{Accepted}
+use Rattle.format.specs.declared.Answer.the-variants.{Accepted, Refused}
 use Rattle.format.specs.declared.Encoding.the-variants.{Plain, FrameOfReference, Dictionary, DeltaBinaryPacked}
 use Rattle.format.proofs.samples.Computing.{reading-computes, planning-computes, standalone-computes}
 use Rattle.format.proofs.samples.Stars.{fives, ends}
@@ -46,6 +54,15 @@ pub record Worked : Type 0 where
   pub least-zigzag : map zigzag ends ≡ (2 ^ 64 - 1) ∷ (2 ^ 64 - 2) ∷ []
   -- "0 for 0, 64 at most"
   pub widths : map width (0 ∷ 1 ∷ 255 ∷ 256 ∷ (2 ^ 64 - 1) ∷ []) ≡ 0 ∷ 1 ∷ 8 ∷ 9 ∷ 64 ∷ []
+  -- "accepted, with the count of values or bytes stored, or a number with an offset, count 0"
+  pub accepted-parts : (count : ℕ) → (numberOf (Accepted count) ≡ 0) × (offsetOf (Accepted count) ≡ 0) × (countOf (Accepted count) ≡ count)
+  pub refused-parts :
+      (number offset : ℕ)
+      → (numberOf (Refused number offset) ≡ number) × (offsetOf (Refused number offset) ≡ offset) × (countOf (Refused number offset) ≡ 0)
+  -- a varint alone: AC 02 at 1 is 300, and signed 150; its next place is 3
+  pub uvarint-read : uvarintAnswer (0x00 ∷ 0xac ∷ 0x02 ∷ []) 1 ≡ Read 300 3 true
+  pub varint-read : varintAnswer (0x00 ∷ 0xac ∷ 0x02 ∷ []) 1 ≡ SignedRead (pos 150) 3 true
+  pub varint-odd : varintAnswer (0x81 ∷ 0x00 ∷ []) 0 ≡ SignedRead (negsuc 0) 2 false
   -- "longer forms up to ten bytes are read": 80 00 is 0, and padded
   pub padded-zero : readUvarint (0x80 ∷ 0x00 ∷ []) 0 ≡ ok (record { value = 0; next = 2; unpadded = false })
   -- "Above 16,384 distinct values the cardinality is AtLeast(16385)."
@@ -59,14 +76,72 @@ pub record Worked : Type 0 where
   pub orders :
       map (λ column. statsOf column .sortedness) (fives ∷ (pos 1 ∷ pos 1 ∷ pos 2 ∷ []) ∷ (pos 2 ∷ pos 1 ∷ pos 1 ∷ []) ∷ (pos 1 ∷ pos 2 ∷ pos 1 ∷ []) ∷ [])
       ≡ Constant ∷ Ascending ∷ Descending ∷ Unsorted ∷ []
-  -- deltas wrap: from the least to the greatest key is −1, and back is 1
-  pub wrapped : (statsOf ends .«delta_min» ≡ negsuc 0) × (statsOf ends .«value_span» ≡ 2 ^ 64 - 1)
+  -- "A delta is taken modulo 2^64 and read as signed": from the least to the greatest key it is −1, and back it is 1
+  pub wrapped : deltas (negsuc (2 ^ 63 - 1) ∷ pos (2 ^ 63 - 1) ∷ negsuc (2 ^ 63 - 1) ∷ []) ≡ negsuc 0 ∷ pos 1 ∷ []
+  -- every field of the record of 3, −1, 3, 3
+  pub all-fields :
+      statsOf (pos 3 ∷ negsuc 0 ∷ pos 3 ∷ pos 3 ∷ [])
+      ≡ record {
+        count = 4;
+        first = pos 3;
+        min = negsuc 0;
+        max = pos 3;
+        «run_count» = 3;
+        sortedness = Unsorted;
+        cardinality = Exact 2;
+        «value_span» = 4;
+        «max_zigzag» = 6;
+        «varint_body_bytes» = 4;
+        «run_length_body_bytes» = 6;
+        «delta_min» = negsuc 3;
+        «delta_max» = pos 4;
+        «delta_span» = 8;
+      }
+  -- "A refused record, list of estimates or plan has every number 0, Constant, Exact(0), Plain, Empty, .. and no candidate available."
+  pub no-stats :
+      refusedStats
+      ≡ record {
+        count = 0;
+        first = pos 0;
+        min = pos 0;
+        max = pos 0;
+        «run_count» = 0;
+        sortedness = Constant;
+        cardinality = Exact 0;
+        «value_span» = 0;
+        «max_zigzag» = 0;
+        «varint_body_bytes» = 0;
+        «run_length_body_bytes» = 0;
+        «delta_min» = pos 0;
+        «delta_max» = pos 0;
+        «delta_span» = 0;
+      }
+  pub no-lengths : refusedEstimates .lengths ≡ 0 ∷ 0 ∷ 0 ∷ 0 ∷ 0 ∷ 0 ∷ 0 ∷ []
+  pub none-available : refusedEstimates .available ≡ false ∷ false ∷ false ∷ false ∷ false ∷ false ∷ false ∷ []
+  pub no-plan :
+      refusedPlan
+      ≡ record {
+        encoding = Plain;
+        «estimated_bytes» = 0;
+        «plain_bytes» = 0;
+        reason = Empty;
+        «run_density» = asFloat 0;
+        «estimated_ratio» = asFloat 0;
+        estimates = refusedEstimates;
+      }
   -- the empty column: lengths 3, 3, 4, 12, 4, 5, Delta unavailable; Plain, Empty at every level, density 0.0, ratio 1.0
   pub empty-lengths : estimatesOf [] .lengths ≡ 3 ∷ 3 ∷ 4 ∷ 12 ∷ 4 ∷ 5 ∷ 0 ∷ []
   pub empty-available : estimatesOf [] .available ≡ true ∷ true ∷ true ∷ true ∷ true ∷ true ∷ false ∷ []
   pub empty-reasons : map (λ level. planOf level [] .reason) (0 ∷ 1 ∷ 9 ∷ []) ≡ Empty ∷ Empty ∷ Empty ∷ []
   pub empty-density : planOf 6 [] .«run_density» ≡ asFloat 0
   pub empty-ratio : planOf 6 [] .«estimated_ratio» ≡ asFloat 1
+  -- "Run density and estimated ratio travel with the plan": one run of four values, 35 bytes by 6; and Plain by Plain where the gain is too little
+  pub fives-bytes : (planOf 6 fives .«estimated_bytes» ≡ 6) × (planOf 6 fives .«plain_bytes» ≡ 35)
+  pub fives-density : planOf 6 fives .«run_density» ≡ div binary64 (asFloat 1) (asFloat 4)
+  pub fives-ratio : planOf 6 fives .«estimated_ratio» ≡ div binary64 (asFloat 35) (asFloat 6)
+  pub ends-ratio : planOf 1 ends .«estimated_ratio» ≡ asFloat 1
+  -- the seven lengths of [5,5,5,5]
+  pub fives-lengths : estimatesOf fives .lengths ≡ 35 ∷ 7 ∷ 6 ∷ 12 ∷ 6 ∷ 6 ∷ 8 ∷ []
   -- "Level 0, Plain, CompressionDisabled."
   pub level-0 : (planOf 0 fives .encoding ≡ Plain) × (planOf 0 fives .reason ≡ CompressionDisabled)
   -- "Gain is 0.20 at levels 1 to 3, 0.05 at 4 to 6, 0.01 above": of 100 bytes, 80, 95 and 99 are met, and 81, 96 and 100 are not
@@ -102,8 +177,16 @@ pub record Worked : Type 0 where
   pub scratch-dictionary : writeScratch 6 fives (pos 1 ∷ pos 2 ∷ pos 3 ∷ pos 4 ∷ []) ≡ pos 5 ∷ pos 2 ∷ pos 3 ∷ pos 4 ∷ []
   pub scratch-other : writeScratch 5 fives (pos 1 ∷ pos 2 ∷ pos 3 ∷ pos 4 ∷ []) ≡ pos 1 ∷ pos 2 ∷ pos 3 ∷ pos 4 ∷ []
   pub scratch-refused : analysisScratch fives (pos 1 ∷ pos 2 ∷ pos 3 ∷ []) ≡ pos 1 ∷ pos 2 ∷ pos 3 ∷ []
+  -- 18 leaves the column buffer as it was
+  pub code-over-column : readColumn false unnamed (0x06 ∷ 0x01 ∷ 0x02 ∷ 0x01 ∷ 0x0a ∷ 0x01 ∷ 0x02 ∷ []) (pos 7 ∷ pos 8 ∷ []) ≡ pos 7 ∷ pos 8 ∷ []
   -- an accepted count is that of the values at the scratch's front; "the part is empty .. where 21 or 22 refuses"
   pub stats-count : statsAnswer fives 4 .answer ≡ Accepted 1
+  pub estimates-count : estimatesAnswer fives 4 .answer ≡ Accepted 1
+  pub plan-count : planAnswer 6 fives 4 .answer ≡ Accepted 1
+  pub counts-capped :
+      (column : List ℤ) (room : ℕ) → length column ≤ maxChunkElements → scratchNeeded column ≤ room → 16384 ≤ length (distinct column)
+      → (statsAnswer column room .answer ≡ Accepted 16384) × (estimatesAnswer column room .answer ≡ Accepted 16384)
+      × (planAnswer 9 column room .answer ≡ Accepted 16384)
   pub part : distinctValuesPart ends 2 ≡ ends
   pub part-refused : distinctValuesPart ends 1 ≡ []
 
@@ -117,6 +200,17 @@ over-distinct-law : (column : List ℤ) → 16385 ≤ length (distinct column) �
 unfolding cardinalityOf tooManyDistinct
 over-distinct-law column h = rw (lt-ltb maxDictionaryCardinality (length (distinct column)) h)
 
+-- and 16,384 values are stored
+counts-capped-law :
+    (column : List ℤ) (room : ℕ) → length column ≤ maxChunkElements → scratchNeeded column ≤ room → 16384 ≤ length (distinct column)
+    → (statsAnswer column room .answer ≡ Accepted 16384) × (estimatesAnswer column room .answer ≡ Accepted 16384)
+    × (planAnswer 9 column room .answer ≡ Accepted 16384)
+unfolding statsAnswer estimatesAnswer planAnswer planChecks
+counts-capped-law column room size enough many =
+    let passed : analysisChecks column room ≡ ok tt = analysisChecks-ok column room size enough in
+    let stored : length (cappedDistinct column) ≡ 16384 = omega (arith, length-cappedDistinct column) in
+    (rw passed (ap Accepted stored), rw passed (ap Accepted stored), rw passed (ap Accepted stored))
+
 pub worked : Worked
 unfolding planning-computes reading-computes standalone-computes zerosThen
 worked =
@@ -125,18 +219,33 @@ worked =
       ranks = refl;
       least-zigzag = refl;
       widths = refl;
+      accepted-parts = λ count. (refl, refl, refl);
+      refused-parts = λ number offset. (refl, refl, refl);
+      uvarint-read = refl;
+      varint-read = refl;
+      varint-odd = refl;
       padded-zero = refl;
       most-distinct = λ column e. most-distinct-law column e;
       over-distinct = λ column h. over-distinct-law column h;
       empty-stats = refl;
       one-value = (refl, refl, refl);
       orders = refl;
-      wrapped = (refl, refl);
+      wrapped = refl;
+      all-fields = refl;
+      no-stats = refl;
+      no-lengths = refl;
+      none-available = refl;
+      no-plan = refl;
       empty-lengths = refl;
       empty-available = refl;
       empty-reasons = refl;
       empty-density = refl;
       empty-ratio = refl;
+      fives-bytes = (refl, refl);
+      fives-density = refl;
+      fives-ratio = refl;
+      ends-ratio = refl;
+      fives-lengths = refl;
       level-0 = (refl, refl);
       gains-met = refl;
       gains-missed = refl;
@@ -162,7 +271,11 @@ worked =
       scratch-dictionary = refl;
       scratch-other = refl;
       scratch-refused = refl;
+      code-over-column = refl;
       stats-count = refl;
+      estimates-count = refl;
+      plan-count = refl;
+      counts-capped = λ column room size enough many. counts-capped-law column room size enough many;
       part = refl;
       part-refused = refl;
     }
