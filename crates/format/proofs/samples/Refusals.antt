@@ -88,6 +88,9 @@ pub record ReadRefusals : Type 0 where
   pub entries-equal : read (0x06 ∷ 0x01 ∷ 0x00 ∷ 0x01 ∷ 0x0a ∷ []) ≡ Refused 10 5
   -- "Each code below entries? 18, the width byte's place."
   pub code-over : read (0x06 ∷ 0x01 ∷ 0x02 ∷ 0x01 ∷ 0x0a ∷ 0x01 ∷ 0x02 ∷ []) ≡ Refused 18 5
+  -- the packed bytes, and their width, are asked before the codes
+  pub code-cut : read (0x06 ∷ 0x01 ∷ 0x02 ∷ 0x01 ∷ 0x0a ∷ 0x08 ∷ 0x01 ∷ []) ≡ Refused 13 1
+  pub code-wide : read (0x06 ∷ 0x01 ∷ 0x01 ∷ 0x01 ∷ 0x0a ∷ 0x41 ∷ 0x01 ∷ []) ≡ Refused 12 0
   pub no-entries : read (0x06 ∷ 0x01 ∷ 0x01 ∷ 0x00 ∷ 0x00 ∷ []) ≡ Refused 18 4
   -- "Block size 1 to 2^20? 19, just after."
   pub block-size-0 : read (0x07 ∷ 0x01 ∷ 0x01 ∷ 0x0a ∷ 0x00 ∷ []) ≡ Refused 19 5
@@ -156,6 +159,8 @@ read-refusals =
       entries-over = refl;
       entries-equal = refl;
       code-over = refl;
+      code-cut = refl;
+      code-wide = refl;
       no-entries = refl;
       block-size-0 = refl;
       block-size-over = refl;
@@ -211,11 +216,12 @@ pub record OtherRefusals : Type 0 where
   pub length-long : packedLenAnswer (2 ^ 24 + 1) 65 ≡ Refused 21 0
   pub length-wide : packedLenAnswer (2 ^ 24) 65 ≡ Refused 12 0
   pub length-most : packedLenAnswer (2 ^ 24) 64 ≡ Accepted (2 ^ 27)
+  pub length-small : packedLenAnswer 3 2 ≡ Accepted 1
   -- "A varint alone: read from a given place, past the end or not, 6, 7; written, 20."
   pub past-end : uvarintAnswer (1 ∷ 2 ∷ []) 5 ≡ Malformed 6 5
   pub ten-bytes : uvarintAnswer (0x00 ∷ nineFF (0xff ∷ [])) 1 ≡ Malformed 6 1
   pub eleven-bytes : uvarintAnswer (0x00 ∷ nineFF (0xff ∷ 0xff ∷ [])) 1 ≡ Malformed 7 1
-  pub signed-past-end : varintAnswer [] 0 ≡ SignedMalformed 6 0
+  pub signed-past-end : varintAnswer (1 ∷ 2 ∷ []) 5 ≡ SignedMalformed 6 5
   pub write-short : uvarintWriteAnswer 300 1 ≡ Refused 20 2
   pub signed-write-short : varintWriteAnswer (pos 64) 1 ≡ Refused 20 2
 
@@ -278,6 +284,7 @@ other-refusals =
       length-long = refl;
       length-wide = refl;
       length-most = refl;
+      length-small = refl;
       past-end = refl;
       ten-bytes = refl;
       eleven-bytes = refl;

@@ -8,13 +8,13 @@ use lib.IntN.{ℤ, pos, negsuc}
 use lib.ListN.{length}
 use borrow.Author.Tests.{lt-ltb}
 use native.Mathlib.Omega.{arith}
-use lib.Ieee.{binary64, div}
-use Rattle.format.specs.Outcome.{ok}
+use lib.Ieee.{fin}
+use Rattle.format.specs.Outcome.{Outcome, refused, ok}
 use Rattle.format.specs.Answers.{numberOf, offsetOf, countOf}
 use Rattle.format.specs.Folds.{deltas}
 use Rattle.format.specs.Encodings.{maxChunkElements, idOf, encodings, decodeCostRank, maxDictionaryCardinality}
 use Rattle.format.specs.Distinct.{cappedDistinct, scratchNeeded, distinct, tooManyDistinct}
-use Rattle.format.specs.Statistics.{analysisChecks, cardinalityOf, statsOf, refusedStats, statsAnswer, analysisScratch, distinctValuesPart}
+use Rattle.format.specs.Statistics.{analysisChecks, cardinalityOf, statsOf, refusedStats, statsAnswer, analysisScratch, distinctValuesPart, distinctAfterChecks, distinctValues}
 use Rattle.format.specs.Estimates.{refusedEstimates, estimatesAnswer, estimatesOf, lengthIn}
 use Rattle.format.specs.Plan.{refusedPlan, planChecks, planAnswer, asFloat, meetsGain, planOf, planScratch}
 use Rattle.format.specs.Standalone.{uvarintAnswer, varintAnswer, packOutput, unpackBuffer, uvarintWriteOutput}
@@ -31,9 +31,9 @@ use Rattle.format.specs.Read.{readAnswer, readColumn}
 use Rattle.format.specs.Write.{writeOutput, writeScratch}
 use Rattle.format.specs.declared.Cardinality.the-variants.{Exact, AtLeast}
 use Rattle.format.specs.declared.Sortedness.the-variants.{Constant, Ascending, Descending, Unsorted}
-use Rattle.format.specs.declared.PlanReason.the-variants.{Empty, CompressionDisabled}
+use Rattle.format.specs.declared.PlanReason.the-variants.{Empty, CompressionDisabled, SmallestEstimate}
 use Rattle.format.specs.declared.Answer.the-variants.{Accepted, Refused}
-use Rattle.format.specs.declared.Encoding.the-variants.{Plain, FrameOfReference, Dictionary, DeltaBinaryPacked}
+use Rattle.format.specs.declared.Encoding.the-variants.{Plain, BitPacked, FrameOfReference, Dictionary, DeltaBinaryPacked}
 use Rattle.format.proofs.samples.Computing.{reading-computes, planning-computes, standalone-computes}
 use Rattle.format.proofs.samples.Stars.{fives, ends}
 
@@ -136,10 +136,23 @@ pub record Worked : Type 0 where
   pub empty-density : planOf 6 [] .«run_density» ≡ asFloat 0
   pub empty-ratio : planOf 6 [] .«estimated_ratio» ≡ asFloat 1
   -- "Run density and estimated ratio travel with the plan": one run of four values, 35 bytes by 6; and Plain by Plain where the gain is too little
-  pub fives-bytes : (planOf 6 fives .«estimated_bytes» ≡ 6) × (planOf 6 fives .«plain_bytes» ≡ 35)
-  pub fives-density : planOf 6 fives .«run_density» ≡ div binary64 (asFloat 1) (asFloat 4)
-  pub fives-ratio : planOf 6 fives .«estimated_ratio» ≡ div binary64 (asFloat 35) (asFloat 6)
-  pub ends-ratio : planOf 1 ends .«estimated_ratio» ≡ asFloat 1
+  -- (a float `fin s m e` is m · 2^e: 0.25, 35/6 to the nearest, and 1.0)
+  pub fives-planned :
+      planAnswer 6 fives 4
+      ≡ record {
+        answer = Accepted 1;
+        plan =
+            record {
+              encoding = BitPacked;
+              «estimated_bytes» = 6;
+              «plain_bytes» = 35;
+              reason = SmallestEstimate;
+              «run_density» = fin false 1 (negsuc 1);
+              «estimated_ratio» = fin false 6567749456581973 (negsuc 49);
+              estimates = estimatesOf fives;
+            };
+      }
+  pub ends-ratio : planOf 1 ends .«estimated_ratio» ≡ fin false 1 (pos 0)
   -- the seven lengths of [5,5,5,5]
   pub fives-lengths : estimatesOf fives .lengths ≡ 35 ∷ 7 ∷ 6 ∷ 12 ∷ 6 ∷ 6 ∷ 8 ∷ []
   -- "Level 0, Plain, CompressionDisabled."
@@ -180,15 +193,33 @@ pub record Worked : Type 0 where
   -- 18 leaves the column buffer as it was
   pub code-over-column : readColumn false unnamed (0x06 ∷ 0x01 ∷ 0x02 ∷ 0x01 ∷ 0x0a ∷ 0x01 ∷ 0x02 ∷ []) (pos 7 ∷ pos 8 ∷ []) ≡ pos 7 ∷ pos 8 ∷ []
   -- an accepted count is that of the values at the scratch's front; "the part is empty .. where 21 or 22 refuses"
-  pub stats-count : statsAnswer fives 4 .answer ≡ Accepted 1
-  pub estimates-count : estimatesAnswer fives 4 .answer ≡ Accepted 1
-  pub plan-count : planAnswer 6 fives 4 .answer ≡ Accepted 1
+  pub stats-given : statsAnswer fives 4 ≡ record { answer = Accepted 1; stats = statsOf fives }
+  pub estimates-given : estimatesAnswer fives 4 ≡ record { answer = Accepted 1; estimates = estimatesOf fives }
   pub counts-capped :
       (column : List ℤ) (room : ℕ) → length column ≤ maxChunkElements → scratchNeeded column ≤ room → 16384 ≤ length (distinct column)
       → (statsAnswer column room .answer ≡ Accepted 16384) × (estimatesAnswer column room .answer ≡ Accepted 16384)
       × (planAnswer 9 column room .answer ≡ Accepted 16384)
   pub part : distinctValuesPart ends 2 ≡ ends
   pub part-refused : distinctValuesPart ends 1 ≡ []
+  pub part-over : (column : List ℤ) (room : ℕ) → tooManyDistinct column ≡ true → distinctValuesPart column room ≡ []
+  -- reading takes what our writing never makes: two blocks of one delta; codes wider than needed; sums that wrap, in a dictionary and in a frame; padded
+  -- varints, in a row and as entries
+  pub blocks-of-one :
+      readColumn true unnamed (0x07 ∷ 0x01 ∷ 0x03 ∷ 0x0a ∷ 0x01 ∷ 0x02 ∷ 0x08 ∷ 1 ∷ 0x06 ∷ 0x08 ∷ 9 ∷ []) (pos 0 ∷ pos 0 ∷ pos 0 ∷ [])
+      ≡ pos 5 ∷ pos 7 ∷ pos 19 ∷ []
+  pub wide-codes : readColumn true unnamed (0x06 ∷ 0x01 ∷ 0x02 ∷ 0x02 ∷ 0x0a ∷ 0x01 ∷ 0x08 ∷ 0 ∷ 1 ∷ []) (pos 0 ∷ pos 0 ∷ []) ≡ pos 5 ∷ pos 6 ∷ []
+  pub entry-wraps :
+      readColumn true unnamed
+      (0x06 ∷ 0x01 ∷ 0x01 ∷ 0x02 ∷ 0xfe ∷ 0xff ∷ 0xff ∷ 0xff ∷ 0xff ∷ 0xff ∷ 0xff ∷ 0xff ∷ 0xff ∷ 0x01 ∷ 0x01 ∷ 0x01 ∷ 0x01 ∷ []) (pos 0 ∷ [])
+      ≡ negsuc (2 ^ 63 - 1) ∷ []
+  pub frame-wraps :
+      readColumn true unnamed (0x04 ∷ 0x01 ∷ 0x01 ∷ 0xff ∷ 0xff ∷ 0xff ∷ 0xff ∷ 0xff ∷ 0xff ∷ 0xff ∷ 0x7f ∷ 0x01 ∷ 0x01 ∷ []) (pos 0 ∷ [])
+      ≡ negsuc (2 ^ 63 - 1) ∷ []
+  pub long-varints :
+      readColumn false unnamed (0x02 ∷ 0x01 ∷ 0x82 ∷ 0x00 ∷ 0x8a ∷ 0x00 ∷ 0x8c ∷ 0x80 ∷ 0x00 ∷ []) (pos 0 ∷ pos 0 ∷ []) ≡ pos 5 ∷ pos 6 ∷ []
+  pub long-entries :
+      readColumn false unnamed (0x06 ∷ 0x01 ∷ 0x02 ∷ 0x82 ∷ 0x00 ∷ 0x8a ∷ 0x00 ∷ 0x81 ∷ 0x00 ∷ 0x01 ∷ 0x01 ∷ []) (pos 0 ∷ pos 0 ∷ [])
+      ≡ pos 6 ∷ pos 5 ∷ []
 
 -- of exactly 16,384 distinct values the cardinality is exact
 most-distinct-law : (column : List ℤ) → length (distinct column) ≡ 16384 → cardinalityOf column ≡ Exact 16384
@@ -210,6 +241,15 @@ counts-capped-law column room size enough many =
     let passed : analysisChecks column room ≡ ok tt = analysisChecks-ok column room size enough in
     let stored : length (cappedDistinct column) ≡ 16384 = omega (arith, length-cappedDistinct column) in
     (rw passed (ap Accepted stored), rw passed (ap Accepted stored), rw passed (ap Accepted stored))
+
+-- and no part is handed back
+part-over-law : (column : List ℤ) (room : ℕ) → tooManyDistinct column ≡ true → distinctValuesPart column room ≡ []
+unfolding distinctValuesPart distinctValues
+part-over-law column room many = go (analysisChecks column room)
+  where
+    go : (o : Outcome (Unit {0})) → distinctAfterChecks o column ≡ []
+    go (refused number offset) = refl
+    go (ok done) = rw many
 
 pub worked : Worked
 unfolding planning-computes reading-computes standalone-computes zerosThen
@@ -241,9 +281,7 @@ worked =
       empty-reasons = refl;
       empty-density = refl;
       empty-ratio = refl;
-      fives-bytes = (refl, refl);
-      fives-density = refl;
-      fives-ratio = refl;
+      fives-planned = refl;
       ends-ratio = refl;
       fives-lengths = refl;
       level-0 = (refl, refl);
@@ -272,10 +310,16 @@ worked =
       scratch-other = refl;
       scratch-refused = refl;
       code-over-column = refl;
-      stats-count = refl;
-      estimates-count = refl;
-      plan-count = refl;
+      stats-given = refl;
+      estimates-given = refl;
       counts-capped = λ column room size enough many. counts-capped-law column room size enough many;
       part = refl;
       part-refused = refl;
+      part-over = λ column room many. part-over-law column room many;
+      blocks-of-one = refl;
+      wide-codes = refl;
+      entry-wraps = refl;
+      frame-wraps = refl;
+      long-varints = refl;
+      long-entries = refl;
     }
