@@ -1,7 +1,6 @@
 """tools/oracle/definitions: runs our definitions on the stored answers of the original Rust. See docs/ORACLE.md."""
 
 import argparse
-import re
 import shutil
 import sys
 import time
@@ -15,6 +14,7 @@ import stored
 FILES = ("leaves", "columns", "chunks")
 SHOWN = 5
 CUT = 400
+BIT_PACKED = stored.ENCODINGS.index("BitPacked")
 
 
 def fail(sentence):
@@ -25,10 +25,7 @@ def fail(sentence):
 def arguments():
     parser = argparse.ArgumentParser(prog="tools/oracle/definitions", description=__doc__)
     parser.add_argument("--quick", action="store_true", help="take every tenth case of each kind")
-    parser.add_argument(
-        "--plant", nargs="?", const="chunkOf", metavar="KIND",
-        help="change one expected number, in memory, in the middle equation of this kind (chunkOf), to see it found",
-    )
+    parser.add_argument("--plant", action="store_true", help="change one expected byte, in memory, to see it found")
     return parser.parse_args()
 
 
@@ -49,16 +46,13 @@ def read_records(folder, quick):
     return taken
 
 
-def plant(equations, kind):
-    """Adds 1 to the last number of an expected answer; of a byte only within its range."""
-    places = [e for e in equations if e.kind == kind]
-    if not places:
-        fail(f"there is no equation of the kind {kind} to plant an error in.")
-    chosen = places[len(places) // 2]
-    number = re.findall(r"\d+", chosen.right)[-1]
-    front, _, back = chosen.right.rpartition(number)
-    chosen.right = f"{front}{int(number) ^ 1}{back}"
-    print(f"Planted: {number} became {int(number) ^ 1} in the answer expected of {kind}, {shortened(chosen.case)}")
+def plant(records):
+    """Changes the last byte of a BitPacked chunk that the Rust wrote."""
+    columns = [r for r in records if isinstance(r, stored.Column) and r.chunks]
+    chunks = columns[len(columns) // 2].chunks
+    right = chunks[BIT_PACKED]
+    chunks[BIT_PACKED] = right[:-1] + bytes([right[-1] ^ 1])
+    print(f"Planted: the chunk {shortened(making.hexed(right))} now ends in {chunks[BIT_PACKED][-1]:02x}.\n")
 
 
 def shortened(text):
@@ -74,17 +68,23 @@ def report_counts(equations, failing):
 
 
 def report_left_out(left_out):
-    for (kind, why), count in Counter((x.kind, x.why) for x in left_out).items():
-        print(f"Left out of {kind}: {count:,}, {why}; they take too long to compute.")
+    print("\nLeft out, since they take too long to compute:" if left_out else "\nNothing is left out.")
+    for what, count in Counter(x.what for x in left_out).items():
+        print(f"  {count:,} {what}")
+
+
+def found(message):
+    """Where the computed sides differ; or, where the checker does not say that, its first line."""
+    computed = [line for line in message if line.startswith("computed as far as they go")]
+    return (computed or message)[0]
 
 
 def report_failing(equations, messages):
     for number in sorted(messages)[:SHOWN]:
         e = equations[number]
         print(f"\n{e.kind} does not give the Rust's answer: {shortened(e.case)}")
-        print(f"  the Rust: {shortened(e.right)}")
-        for line in messages[number]:
-            print(f"  {shortened(line)}")
+        print(f"  the Rust's: {shortened(e.told)}")
+        print(f"  the checker: {shortened(found(messages[number]))}")
     if len(messages) > SHOWN:
         print(f"\n.. and {len(messages) - SHOWN} more.")
 
@@ -94,22 +94,22 @@ def main():
     root = Path(__file__).resolve().parents[3]
     if not shutil.which("rt"):
         fail("rt, Rattle's checker, is not installed or not in the path.")
-    made = [x for r in read_records(root / "tools" / "oracle" / "stored", options.quick) for x in making.make(r)]
-    equations = [x for x in made if isinstance(x, making.Equation)]
+    records = read_records(root / "tools" / "oracle" / "stored", options.quick)
     if options.plant:
-        plant(equations, options.plant)
+        plant(records)
+    made = [x for r in records for x in making.make(r)]
+    equations = [x for x in made if isinstance(x, making.Equation)]
 
-    folder = root / "target" / "definitions"
     start = time.monotonic()
-    scratch.build(root, folder, equations)
-    proved, messages, printed = scratch.check(folder)
+    scratch.build(root, root / "target" / "definitions", equations)
+    proved, messages, printed = scratch.check(root / "target" / "definitions")
     seconds = time.monotonic() - start
     if not proved and not messages:
         print(printed)
         fail("the checker stopped for another reason than an equation; what it printed stands above.")
 
     report_counts(equations, messages)
-    report_left_out(x for x in made if isinstance(x, making.LeftOut))
+    report_left_out([x for x in made if isinstance(x, making.LeftOut)])
     report_failing(equations, messages)
     print(f"\n{'All hold' if proved else f'{len(messages)} do not hold'}; {seconds:.0f} seconds.")
     sys.exit(0 if proved else 1)

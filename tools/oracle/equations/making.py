@@ -4,10 +4,12 @@ from dataclasses import dataclass
 
 import stored
 
-# The checker gives up a computation after fifty million steps; insertion into the distinct values grows with the square
-# of a column's keys.
-MOST_KEYS = 600
-# A chunk's values are walked once.
+# Collecting the distinct values takes steps by the square of their number; 300 of them take the checker a second, once
+# for each equation.
+MOST_KEYS = 300
+# So of a described column, which is long, one level of each gain is asked; of a stored one every level.
+GAIN_LEVELS = (0, 3, 6, 9)
+# A chunk's values are walked once, but the checker ends a computation after fifty million steps.
 MOST_VALUES = 5000
 
 SORTEDNESS = ("Constant", "Ascending", "Descending", "Unsorted")
@@ -20,22 +22,22 @@ DICTIONARY = 6
 
 @dataclass
 class Equation:
-    """`left ≡ right`, in antt. `kind` is the definition that it is about; `unfolds` is what it computes through; `case`
-    says for a reader what was asked."""
+    """`left ≡ right`, in antt. `kind` is the definition that it is about; `unfolds` is what it computes through; `case` and
+    `told` say for a reader what was asked, and what the Rust answered."""
 
     kind: str
     unfolds: str
     left: str
     right: str
     case: str
+    told: str
 
 
 @dataclass
 class LeftOut:
-    """A question that is not put to the definitions."""
+    """Something that is not put to the definitions."""
 
-    kind: str
-    why: str
+    what: str
 
 
 # ---- antt's terms
@@ -78,22 +80,31 @@ def listed(values):
     return "[" + ", ".join(str(v) for v in values) + "]"
 
 
+# ---- equations
+
+
+def equation(kind, unfolds, left, right, case):
+    return Equation(kind, unfolds, left, str(right), case, told=str(right))
+
+
+def of_bytes(kind, unfolds, left, data, case):
+    return Equation(kind, unfolds, left, numbers(data), case, told=hexed(data))
+
+
 # ---- leaves.bin
 
-
-def alone(kind, left, right, case):
-    return Equation(kind, "standalone-computes", left, str(right), case)
+ALONE = "standalone-computes"
 
 
 def of_number(r):
     v, case = key(stored.signed(r.x)), f"x = {r.x}"
-    yield alone("zigzag", f"zigzag ({v})", r.zigzag, case)
-    yield alone("unzigzag", f"unzigzag {r.x}", key(r.unzigzag), case)
-    yield alone("width", f"width {r.x}", r.width, case)
-    yield alone("uvarintLen", f"uvarintLen {r.x}", len(r.uvarint), case)
-    yield alone("uvarintBytes", f"uvarintBytes {r.x}", numbers(r.uvarint), case)
-    yield alone("varintLen", f"varintLen ({v})", len(r.varint), case)
-    yield alone("varintBytes", f"varintBytes ({v})", numbers(r.varint), case)
+    yield equation("zigzag", ALONE, f"zigzag ({v})", r.zigzag, case)
+    yield equation("unzigzag", ALONE, f"unzigzag {r.x}", key(r.unzigzag), case)
+    yield equation("width", ALONE, f"width {r.x}", r.width, case)
+    yield equation("uvarintLen", ALONE, f"uvarintLen {r.x}", len(r.uvarint), case)
+    yield of_bytes("uvarintBytes", ALONE, f"uvarintBytes {r.x}", r.uvarint, case)
+    yield equation("varintLen", ALONE, f"varintLen ({v})", len(r.varint), case)
+    yield of_bytes("varintBytes", ALONE, f"varintBytes ({v})", r.varint, case)
 
 
 def of_varint_read(r):
@@ -101,8 +112,8 @@ def of_varint_read(r):
         return f"refused {r.answer.number} {r.answer.offset}" if r.answer.number else f"ok ({value}, {r.next})"
 
     asked, case = f"{numbers(r.data)} {r.place}", f"{hexed(r.data)} read at {r.place}"
-    yield alone("uvarintAnswer", f"unsignedRead (uvarintAnswer {asked})", outcome(r.value), case)
-    yield alone("varintAnswer", f"signedRead (varintAnswer {asked})", outcome(key(r.signed)), case)
+    yield equation("uvarintAnswer", ALONE, f"unsignedRead (uvarintAnswer {asked})", outcome(r.value), case)
+    yield equation("varintAnswer", ALONE, f"signedRead (varintAnswer {asked})", outcome(key(r.signed)), case)
 
 
 def of_packing(r):
@@ -110,33 +121,37 @@ def of_packing(r):
     case = f"width {r.width}, values {listed(r.values)}"
     asked = f"packAnswer {values} {r.width} {space}"
     if r.answer.offset is None:
-        yield alone("packAnswer", f"numberOf ({asked})", r.answer.number, case)
+        yield equation("packAnswer", ALONE, f"numberOf ({asked})", r.answer.number, case)
     else:
-        yield alone("packAnswer", asked, answer(r.answer, len(r.packed)), case)
-        yield alone("packed", f"packed {r.width} {values}", numbers(r.packed), case)
+        yield equation("packAnswer", ALONE, asked, answer(r.answer, len(r.packed)), case)
+        yield of_bytes("packed", ALONE, f"packed {r.width} {values}", r.packed, case)
 
 
 def of_unpacking(r):
     body, case = numbers(r.body), f"width {r.width}, {r.count} values, body {hexed(r.body)}"
     asked = f"unpackAnswer {body} {r.width} {r.count} {r.count}"
-    yield alone("unpackAnswer", asked, answer(r.answer, r.count), case)
+    yield equation("unpackAnswer", ALONE, asked, answer(r.answer, r.count), case)
     if r.answer.number == 0:
-        yield alone("unpacked", f"unpacked {r.width} {r.count} {body}", numbers(r.values), case)
+        yield equation("unpacked", ALONE, f"unpacked {r.width} {r.count} {body}", numbers(r.values), case)
 
 
 def of_packed_length(r):
     case = f"{r.count} values, width {r.width}"
-    yield alone("packedLenAnswer", f"packedLenAnswer {r.count} {r.width}", f"Accepted {r.length}", case)
+    yield equation("packedLenAnswer", ALONE, f"packedLenAnswer {r.count} {r.width}", f"Accepted {r.length}", case)
 
 
 def of_packed_many(r):
     packed, case = f"packed {r.width} {numbers(r.values)}", f"width {r.width}, values {listed(r.values)}"
-    yield alone("packed", f"summed ({packed})", f"({r.length}, {r.packed_sum})", f"{case}: length and checksum")
-    unpacked = f"unpacked {r.width} {len(r.values)} ({packed})"
-    yield alone("unpacked", f"summedNumbers ({unpacked})", f"({len(r.values)}, {r.unpacked_sum})", f"{case}: count and checksum")
+    sums = f"({r.length}, {r.packed_sum})"
+    yield equation("packed", ALONE, f"summed ({packed})", sums, f"{case}: length and checksum")
+    unpacked, sums = f"unpacked {r.width} {len(r.values)} ({packed})", f"({len(r.values)}, {r.unpacked_sum})"
+    yield equation("unpacked", ALONE, f"summedNumbers ({unpacked})", sums, f"{case}: count and checksum")
 
 
 # ---- columns.bin
+
+PLANNING = "planning-computes"
+WRITING = "writing-computes"
 
 
 def statistics(s):
@@ -162,56 +177,58 @@ def plan(c, p):
 
 
 def of_column(c):
-    column, case = keys(c.keys), f"the column {listed(c.keys)}"
     if len(c.keys) > MOST_KEYS:
-        for kind in ("statsOf", "estimatesOf", "planOf", "distinctValues", "chunkOf"):
-            yield LeftOut(kind, f"columns of more than {MOST_KEYS} keys")
+        yield LeftOut(f"columns of more than {MOST_KEYS} keys")
         return
-    yield Equation("statsOf", "planning-computes", f"statsOf {column}", statistics(c.stats), case)
-    yield Equation("estimatesOf", "planning-computes", f"estimatesOf {column}", estimates(c), case)
+    column, case = keys(c.keys), f"the column {listed(c.keys)}"
+    yield equation("statsOf", PLANNING, f"statsOf {column}", statistics(c.stats), case)
+    yield equation("estimatesOf", PLANNING, f"estimatesOf {column}", estimates(c), case)
     for p in c.plans:
-        for level in p.levels:
+        for level in p.levels if c.chunks else set(p.levels) & set(GAIN_LEVELS):
             asked = f"planOf {level} {column}"
-            yield Equation("planOf", "planning-computes ofBits", asked, plan(c, p), f"{case} at level {level}")
+            yield equation("planOf", f"{PLANNING} ofBits", asked, plan(c, p), f"{case} at level {level}")
     yield from (of_stored_chunks if c.chunks else of_described_chunks)(c, column, case)
 
 
 def of_stored_chunks(c, column, case):
-    yield Equation("distinctValues", "planning-computes", f"distinctValues {column}", keys(c.distinct), case)
+    yield equation("distinctValues", PLANNING, f"distinctValues {column}", keys(c.distinct), case)
     for id, (name, chunk) in enumerate(zip(stored.ENCODINGS, c.chunks), 1):
-        asked, so = f"{id} {column} {len(c.keys)}", f"{case} in {name}"
-        yield Equation("chunkOf", "writing-computes", f"chunkOf {name} {column}", numbers(chunk), so)
-        yield Equation("writeAnswer", "writing-computes", f"writeAnswer {asked} {len(chunk)}", f"Accepted {len(chunk)}", so)
-        yield Equation("writeOutput", "writing-computes", f"writeOutput {asked} (replicate {len(chunk)} 0)", numbers(chunk), so)
+        asked, length, so = f"{id} {column} {len(c.keys)}", len(chunk), f"{case} in {name}"
+        yield of_bytes("chunkOf", WRITING, f"chunkOf {name} {column}", chunk, so)
+        yield equation("writeAnswer", WRITING, f"writeAnswer {asked} {length}", f"Accepted {length}", so)
+        yield of_bytes("writeOutput", WRITING, f"writeOutput {asked} (replicate {length} 0)", chunk, so)
 
 
 def of_described_chunks(c, column, case):
-    count = c.stats.cardinality[1]
-    asked = f"summedKeys (distinctValues {column})"
-    yield Equation("distinctValues", "planning-computes", asked, f"({count}, {c.distinct_sum})", f"{case}: count and checksum")
+    asked, sums = f"summedKeys (distinctValues {column})", f"({c.distinct_count}, {c.distinct_sum})"
+    yield equation("distinctValues", PLANNING, asked, sums, f"{case}: count and checksum")
     for name, (length, total) in zip(stored.ENCODINGS, c.chunk_sums):
-        so = f"{case} in {name}: length and checksum"
-        yield Equation("chunkOf", "writing-computes", f"summed (chunkOf {name} {column})", f"({length}, {total})", so)
+        asked, so = f"summed (chunkOf {name} {column})", f"{case} in {name}: length and checksum"
+        yield equation("chunkOf", WRITING, asked, f"({length}, {total})", so)
 
 
 def of_refused_encoding(r):
     asked = f"numberOf (writeAnswer {r.id} {keys((1, 2, 3))} 3 100)"
-    yield Equation("writeAnswer", "writing-computes", asked, str(r.number), f"[1, 2, 3] in the encoding {r.id}")
+    yield equation("writeAnswer", WRITING, asked, r.number, f"[1, 2, 3] in the encoding {r.id}")
 
 
 # ---- chunks.bin
 
+READING = "reading-computes"
+
 
 def of_chunk(r):
     s, case = numbers(r.data), f"{ORIGINS[r.origin]}: {hexed(r.data)}"
-    if r.count > MOST_VALUES and r.data[0] == DICTIONARY:
-        yield LeftOut("readAnswer", f"Dictionary chunks of more than {MOST_VALUES} values")
+    many = r.count > MOST_VALUES
+    # Of a Dictionary chunk every code is asked about.
+    if many and r.data[0] == DICTIONARY:
+        yield LeftOut(f"answers to Dictionary chunks of more than {MOST_VALUES:,} values")
     else:
         answers = items(answer(a, r.count) for a in r.answers)
-        yield Equation("readAnswer", "reading-computes readings", f"readings {s} {r.count or 64}", answers, case)
+        yield equation("readAnswer", f"{READING} readings", f"readings {s} {r.count or 64}", answers, case)
     accepting = [naming for naming, a in zip(NAMINGS, r.answers) if a.number == 0]
-    if r.count > MOST_VALUES:
-        yield LeftOut("readColumn", f"chunks of more than {MOST_VALUES} values")
+    if many:
+        yield LeftOut(f"values of chunks of more than {MOST_VALUES:,} values")
     elif accepting:
         yield of_values(r, accepting[-1], s, case)
 
@@ -219,9 +236,9 @@ def of_chunk(r):
 def of_values(r, naming, s, case):
     asked = f"readColumn false {naming} {s} (replicate {r.count} (pos 0))"
     if r.keys is None:
-        right, so = f"({r.count}, {r.keys_sum})", f"{case}: count and checksum"
-        return Equation("readColumn", "reading-computes", f"summedKeys ({asked})", right, so)
-    return Equation("readColumn", "reading-computes", asked, keys(r.keys), case)
+        sums = f"({r.count}, {r.keys_sum})"
+        return equation("readColumn", READING, f"summedKeys ({asked})", sums, f"{case}: count and checksum")
+    return equation("readColumn", READING, asked, keys(r.keys), case)
 
 
 MAKERS = {

@@ -5,9 +5,9 @@ import re
 import shutil
 import subprocess
 
-# A file is named by each message, and is checked whole; so it should be read through at a glance.
+# Small enough to open at a failing equation.
 FILE_SIZE = 100
-# rt checks crates side by side; with several to a core none is left over long at the end.
+# rt checks crates side by side; with several to a core, no core waits long for the last one.
 CRATES = 8
 
 SOURCE = "// No code: proofs/ has the equations.\n"
@@ -105,14 +105,12 @@ def build(root, scratch, equations):
     shutil.rmtree(scratch, ignore_errors=True)
     shutil.copytree(root / "crates" / "format", scratch / "crates" / "format")
     write_crate(scratch, "asked", "specs", {"Asked": ASKED})
-    files = [equations[at : at + FILE_SIZE] for at in range(0, len(equations), FILE_SIZE)]
     lines = ["format:", "asked: format"]
-    for crate in range(min(CRATES, len(files))):
-        name = f"equations_{crate + 1}"
+    numbered = list(enumerate(equations))
+    for n in range(CRATES):
         # Dealt out in turn, since neighbours cost alike.
-        dealt = range(crate, len(files), CRATES)
-        write_crate(scratch, name, "proofs", {f"Part{n + 1}": part(files[n], n * FILE_SIZE) for n in dealt})
-        lines.append(f"{name}: format asked")
+        write_crate(scratch, f"equations_{n + 1}", "proofs", parts(numbered[n::CRATES]))
+        lines.append(f"equations_{n + 1}: format asked")
     (scratch / "crates.txt").write_text("\n".join(lines) + "\n")
 
 
@@ -126,11 +124,17 @@ def write_crate(scratch, name, folder, modules):
         (crate / folder / f"{module}.antt").write_text(text)
 
 
-def part(equations, first):
-    """A file of equations. One declaration each: the checker then names every one that fails, and is as fast as with one
-    record of all."""
+def parts(numbered):
+    """The files of a crate."""
+    starts = range(0, len(numbered), FILE_SIZE)
+    return {f"Part{n}": part(numbered[at : at + FILE_SIZE]) for n, at in enumerate(starts, 1)}
+
+
+def part(numbered):
+    """A file of equations. One declaration each: so the checker names every one that fails, and it takes no longer than for
+    one record of them all."""
     return HEADER + "\n".join(
-        f"eq-{n} : {e.left} ≡ {e.right}\nunfolding {e.unfolds}\neq-{n} = refl\n" for n, e in enumerate(equations, first)
+        f"eq-{n} : {e.left} ≡ {e.right}\nunfolding {e.unfolds}\neq-{n} = refl\n" for n, e in numbered
     )
 
 

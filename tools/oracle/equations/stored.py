@@ -5,8 +5,6 @@ from dataclasses import dataclass
 from pathlib import Path
 
 ENCODINGS = ("Plain", "Varint", "BitPacked", "FrameOfReference", "RunLength", "Dictionary", "DeltaBinaryPacked")
-FNV_START = 0xCBF29CE484222325
-FNV_PRIME = 0x100000001B3
 WORD = 2**64
 
 
@@ -156,6 +154,7 @@ class Column:
     chunks: list | None
     chunk_sums: list | None
     distinct: list | None
+    distinct_count: int
     distinct_sum: int | None
 
 
@@ -177,18 +176,6 @@ class Chunk:
     keys_sum: int | None
 
 
-def fnv(data):
-    total = FNV_START
-    for byte in data:
-        total = (total ^ byte) * FNV_PRIME % WORD
-    return total
-
-
-def words(numbers):
-    """The eight-byte words whose checksum stands for these numbers."""
-    return b"".join((n % WORD).to_bytes(8, "little") for n in numbers)
-
-
 def states(seed, count):
     state = seed
     for _ in range(count):
@@ -200,7 +187,8 @@ def signed(n):
     return n - WORD if n >= WORD // 2 else n
 
 
-def read_answer(number, compared, offset):
+def read_answer(f):
+    number, compared, offset = f.u8(), f.u8(), f.u64()
     return Answer(number, offset if compared else None)
 
 
@@ -213,21 +201,21 @@ def read_number(f):
 
 def read_varint_read(f):
     place = f.u64()
-    answer = read_answer(f.u8(), f.u8(), f.u64())
+    answer = read_answer(f)
     value, signed_value, after = f.u64(), f.i64(), f.u64()
     return VarintRead(f.take(f.u16()), place, answer, value, signed_value, after)
 
 
 def read_packing(f):
     width = f.u32()
-    answer = read_answer(f.u8(), f.u8(), f.u64())
+    answer = read_answer(f)
     values = f.u64s(f.u32())
     return Packing(width, values, answer, f.take(f.u32()))
 
 
 def read_unpacking(f):
     width, count = f.u32(), f.u32()
-    answer = read_answer(f.u8(), f.u8(), f.u64())
+    answer = read_answer(f)
     body = f.take(f.u32())
     return Unpacking(width, count, body, answer, f.u64s(f.u32()))
 
@@ -274,7 +262,10 @@ def read_stored_column(f):
     count = front["stats"].count
     plain = chunks[0]
     keys = Fields(plain[len(plain) - 8 * count :]).i64s(count)
-    return Column(keys, **front, chunks=chunks, chunk_sums=None, distinct=f.i64s(f.u32()), distinct_sum=None)
+    distinct = f.i64s(f.u32())
+    return Column(
+        keys, **front, chunks=chunks, chunk_sums=None, distinct=distinct, distinct_count=len(distinct), distinct_sum=None
+    )
 
 
 def described_keys(f, count):
@@ -290,8 +281,9 @@ def read_described_column(f):
     front = read_column_front(f)
     keys = described_keys(f, front["stats"].count)
     sums = [(f.u32(), f.u64()) for _ in ENCODINGS]
-    f.u32()
-    return Column(keys, **front, chunks=None, chunk_sums=sums, distinct=None, distinct_sum=f.u64())
+    return Column(
+        keys, **front, chunks=None, chunk_sums=sums, distinct=None, distinct_count=f.u32(), distinct_sum=f.u64()
+    )
 
 
 def read_refused_encoding(f):
