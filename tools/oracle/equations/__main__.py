@@ -82,8 +82,8 @@ def found(message):
 def report_failing(equations, messages):
     for number in sorted(messages)[:SHOWN]:
         e = equations[number]
-        print(f"\n{e.kind} does not give the Rust's answer: {shortened(e.case)}")
-        print(f"  the Rust's: {shortened(e.told)}")
+        print(f"\nNot proved: {e.kind}, {shortened(e.case)}")
+        print(f"  the Rust:    {shortened(e.told)}")
         print(f"  the checker: {shortened(found(messages[number]))}")
     if len(messages) > SHOWN:
         print(f"\n.. and {len(messages) - SHOWN} more.")
@@ -111,7 +111,7 @@ def main():
     report_counts(equations, messages)
     report_left_out([x for x in made if isinstance(x, making.LeftOut)])
     report_failing(equations, messages)
-    print(f"\n{'All hold' if proved else f'{len(messages)} do not hold'}; {seconds:.0f} seconds.")
+    print(f"\n{'All hold' if proved else f'{len(messages)} not proved'}; {seconds:.0f} seconds.")
     sys.exit(0 if proved else 1)
 
 

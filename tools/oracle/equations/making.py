@@ -9,7 +9,7 @@ import stored
 MOST_KEYS = 300
 # So of a described column, which is long, one level of each gain is asked; of a stored one every level.
 GAIN_LEVELS = (0, 3, 6, 9)
-# A chunk's values are walked once, but the checker ends a computation after fifty million steps.
+# A chunk's values are walked once, but the checker ends a computation after fifty million steps or 1 GiB of stack.
 MOST_VALUES = 5000
 
 SORTEDNESS = ("Constant", "Ascending", "Descending", "Unsorted")
@@ -17,7 +17,7 @@ CARDINALITY = ("Exact", "AtLeast")
 REASONS = ("Empty", "CompressionDisabled", "SmallestEstimate", "GainBelowThreshold")
 ORIGINS = ("made by hand", "good", "cut", "one byte changed", "random", "short")
 NAMINGS = ("unnamed", *(f"(named {n})" for n in range(1, 8)))
-DICTIONARY = 6
+DICTIONARY = NAMINGS.index("(named 6)")
 
 
 @dataclass
@@ -184,7 +184,7 @@ def of_column(c):
     yield equation("statsOf", PLANNING, f"statsOf {column}", statistics(c.stats), case)
     yield equation("estimatesOf", PLANNING, f"estimatesOf {column}", estimates(c), case)
     for p in c.plans:
-        for level in p.levels if c.chunks else set(p.levels) & set(GAIN_LEVELS):
+        for level in (n for n in p.levels if c.chunks or n in GAIN_LEVELS):
             asked = f"planOf {level} {column}"
             yield equation("planOf", f"{PLANNING} ofBits", asked, plan(c, p), f"{case} at level {level}")
     yield from (of_stored_chunks if c.chunks else of_described_chunks)(c, column, case)
@@ -219,18 +219,28 @@ READING = "reading-computes"
 
 def of_chunk(r):
     s, case = numbers(r.data), f"{ORIGINS[r.origin]}: {hexed(r.data)}"
-    many = r.count > MOST_VALUES
-    # Of a Dictionary chunk every code is asked about.
-    if many and r.data[0] == DICTIONARY:
-        yield LeftOut(f"answers to Dictionary chunks of more than {MOST_VALUES:,} values")
+    if asks_many_codes(r):
+        yield LeftOut(f"answers to Dictionary chunks of more than {MOST_VALUES:,} codes")
     else:
         answers = items(answer(a, r.count) for a in r.answers)
         yield equation("readAnswer", f"{READING} readings", f"readings {s} {r.count or 64}", answers, case)
     accepting = [naming for naming, a in zip(NAMINGS, r.answers) if a.number == 0]
-    if many:
+    if r.count > MOST_VALUES:
         yield LeftOut(f"values of chunks of more than {MOST_VALUES:,} values")
     elif accepting:
         yield of_values(r, accepting[-1], s, case)
+
+
+def asks_many_codes(r):
+    """Of a Dictionary chunk every code is asked about, by question 18; no other answer walks so many values."""
+    return r.answers[DICTIONARY].number in (0, 18) and header_count(r.data) > MOST_VALUES
+
+
+def header_count(data):
+    """The count in a header that was read: a varint at 2."""
+    groups = data[2:]
+    last = next(n for n, byte in enumerate(groups) if byte < 128)
+    return sum(byte % 128 << 7 * n for n, byte in enumerate(groups[: last + 1])) % stored.WORD
 
 
 def of_values(r, naming, s, case):

@@ -1,15 +1,18 @@
 """Reads the stored answers of the original Rust. The layout is docs/ORACLE.md, "The files"."""
 
+from __future__ import annotations
+
 import struct
 from dataclasses import dataclass
 from pathlib import Path
 
 ENCODINGS = ("Plain", "Varint", "BitPacked", "FrameOfReference", "RunLength", "Dictionary", "DeltaBinaryPacked")
 WORD = 2**64
+END = b"#end\n"
 
 
 class Fields:
-    """The fields of one record, taken from the front."""
+    """Fields of a file or of one record, taken from the front."""
 
     def __init__(self, data):
         self.data = data
@@ -18,7 +21,7 @@ class Fields:
     def take(self, count):
         end = self.at + count
         if end > len(self.data):
-            raise ValueError("a record ends before its fields do")
+            raise ValueError("it ends before its fields do")
         part = self.data[self.at : end]
         self.at = end
         return part
@@ -47,9 +50,8 @@ class Fields:
     def i64s(self, count):
         return list(struct.unpack(f"<{count}q", self.take(8 * count)))
 
-    def done(self):
-        if self.at != len(self.data):
-            raise ValueError("a record is longer than its fields")
+    def ended(self):
+        return self.at == len(self.data)
 
 
 @dataclass
@@ -323,13 +325,12 @@ KINDS = {
 def read_file(folder, name):
     """The records of a file, in order."""
     data = Path(folder, f"{name}.bin").read_bytes()
-    at = data.index(b"#end\n") + len(b"#end\n")
+    file = Fields(data[data.index(END) + len(END) :])
     records = []
-    while at < len(data):
-        kind, length = struct.unpack_from("<BI", data, at)
-        fields = Fields(data[at + 5 : at + 5 + length])
-        at += 5 + length
+    while not file.ended():
+        kind, record = file.u8(), Fields(file.take(file.u32()))
         if kind in KINDS[name]:
-            records.append(KINDS[name][kind](fields))
-            fields.done()
+            records.append(KINDS[name][kind](record))
+            if not record.ended():
+                raise ValueError("a record is longer than its fields")
     return records
