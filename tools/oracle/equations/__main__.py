@@ -102,10 +102,10 @@ def main():
 
     start = time.monotonic()
     scratch.build(root, root / "target" / "definitions", equations)
-    proved, messages, printed = scratch.check(root / "target" / "definitions")
+    proved, messages, unexplained = scratch.check(root / "target" / "definitions")
     seconds = time.monotonic() - start
-    if not proved and not messages:
-        print(printed)
+    if unexplained:
+        print(unexplained)
         fail("the checker stopped for another reason than an equation; what it printed stands above.")
 
     report_counts(equations, messages)

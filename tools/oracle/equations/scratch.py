@@ -96,8 +96,9 @@ use Rattle.asked.specs.Asked.{readings, unsignedRead, signedRead, summed, summe
 
 """
 
-# The checker's messages: where one begins, and the equation that it is about.
+# How a message of the checker begins, with the equation that it is about; and how rt names a crate that failed.
 MESSAGE = re.compile(r"^/\S+\.antt:\d+:\d+: error: (?:`eq-(\d+)`)?")
+FAILED = re.compile(r"^rt: equations_(\d+) NOT PROVED", re.MULTILINE)
 
 
 def build(root, scratch, equations):
@@ -139,7 +140,8 @@ def part(numbered):
 
 
 def check(scratch):
-    """Runs the checker. Gives whether it proved everything; its message on each equation, by number; and all it printed."""
+    """Runs the checker. Gives whether it proved everything; its message on each equation, by number; and, where it failed
+    in another way too, all that it printed."""
     run = subprocess.run(
         ["nice", "rt", "check"], cwd=scratch, env={**os.environ, "RT_JOBS": str(os.cpu_count())},
         stdout=subprocess.PIPE, stderr=subprocess.STDOUT, text=True, errors="replace",
@@ -147,9 +149,12 @@ def check(scratch):
     messages, current = {}, None
     for line in run.stdout.splitlines():
         if begins := MESSAGE.match(line):
-            current = begins.group(1) and int(begins.group(1))
+            current = begins.group(1)
         elif not line.startswith(" "):
-            current = None
-        if current is not None:
-            messages.setdefault(current, []).append(line.strip())
-    return run.returncode == 0, messages, run.stdout
+            continue
+        messages.setdefault(current, []).append(line.strip())
+    by_number = {int(n): lines for n, lines in messages.items() if n is not None}
+    failed = {int(n) for n in FAILED.findall(run.stdout)}
+    explained = None not in messages and failed == {n % CRATES + 1 for n in by_number}
+    proved = run.returncode == 0
+    return proved, by_number, "" if proved or (by_number and explained) else run.stdout
