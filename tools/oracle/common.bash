@@ -1,5 +1,5 @@
 # shellcheck shell=bash
-# Shared by tools/oracle/build and tools/oracle/answers, which source this file.
+# Shared by tools/oracle/build, tools/oracle/answers and tools/oracle/definitions, which source this file.
 
 # The build folder lies outside the tree, so that no line of the original gets into it.
 # shellcheck disable=SC2034
