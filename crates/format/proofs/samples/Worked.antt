@@ -16,7 +16,7 @@ use Rattle.format.specs.Encodings.{maxChunkElements, idOf, encodings, de
 use Rattle.format.specs.Distinct.{cappedDistinct, scratchNeeded, distinct, tooManyDistinct}
 use Rattle.format.specs.Statistics.{analysisChecks, cardinalityOf, statsOf, refusedStats, statsAnswer, analysisScratch, distinctValuesPart, distinctAfterChecks, distinctValues}
 use Rattle.format.specs.Estimates.{refusedEstimates, estimatesAnswer, estimatesOf, lengthIn}
-use Rattle.format.specs.Plan.{refusedPlan, planChecks, planAnswer, asFloat, meetsGain, planOf, planScratch}
+use Rattle.format.specs.Plan.{refusedPlan, planChecks, planAnswer, asFloat, meetsGain, planOf, planScratch, estimatedRatio}
 use Rattle.format.specs.Standalone.{uvarintAnswer, varintAnswer, packOutput, unpackBuffer, uvarintWriteOutput}
 use Rattle.format.specs.declared.UvarintAnswer.the-variants.{Read}
 use Rattle.format.specs.declared.VarintAnswer.the-variants.{Read as SignedRead}
@@ -24,6 +24,8 @@ use Rattle.format.proofs.numbers.Distinct.{length-cappedDistinct}
 use Rattle.format.proofs.plan.Checks.{analysisChecks-ok}
 use Rattle.format.specs.Keys.{zigzag}
 use Rattle.format.specs.Width.{width}
+use Rattle.format.specs.Packing.{widthAt}
+use Rattle.format.specs.Dictionary.{codeOf}
 use Rattle.format.specs.Varint.{readUvarint}
 use Rattle.format.specs.Header.{unnamed}
 use Rattle.format.specs.Chunk.{chunkOf}
@@ -152,6 +154,8 @@ pub record Worked : Type 0 where
               estimates = estimatesOf fives;
             };
       }
+  -- the Rust's ratio of no bytes is 1.0
+  pub ratios : (estimatedRatio 5 0 ≡ fin false 1 (pos 0)) × (estimatedRatio 5 1 ≡ fin false 5 (pos 0))
   pub ends-ratio : planOf 1 ends .«estimated_ratio» ≡ fin false 1 (pos 0)
   -- the seven lengths of [5,5,5,5]
   pub fives-lengths : estimatesOf fives .lengths ≡ 35 ∷ 7 ∷ 6 ∷ 12 ∷ 6 ∷ 6 ∷ 8 ∷ []
@@ -174,6 +178,9 @@ pub record Worked : Type 0 where
   pub frame-bytes : chunkOf FrameOfReference (pos 7 ∷ pos 10 ∷ []) ≡ 0x04 ∷ 0x01 ∷ 0x02 ∷ 7 ∷ 0 ∷ 0 ∷ 0 ∷ 0 ∷ 0 ∷ 0 ∷ 0 ∷ 0x02 ∷ 0x0c ∷ []
   -- "No entries: only total and width."
   pub empty-dictionary : chunkOf Dictionary [] ≡ 0x06 ∷ 0x01 ∷ 0x00 ∷ 0x00 ∷ 0x00 ∷ []
+  -- codes are places among the entries; a width byte past the end is missed at its own place
+  pub codes : map (codeOf (pos 1 ∷ pos 2 ∷ [])) (pos 1 ∷ pos 2 ∷ pos 3 ∷ []) ≡ 0 ∷ 1 ∷ 2 ∷ []
+  pub width-past-end : widthAt [] 5 ≡ refused 10 5
   -- "a zero length is read": no 5, then 6 twice
   pub zero-run : readColumn true unnamed (0x05 ∷ 0x01 ∷ 0x02 ∷ 0x02 ∷ 0x0a ∷ 0x00 ∷ 0x0c ∷ 0x02 ∷ []) (pos 0 ∷ pos 0 ∷ []) ≡ pos 6 ∷ pos 6 ∷ []
   -- "fill the buffer's front; the rest is untouched"
@@ -282,6 +289,7 @@ worked =
       empty-density = refl;
       empty-ratio = refl;
       fives-planned = refl;
+      ratios = (refl, refl);
       ends-ratio = refl;
       fives-lengths = refl;
       level-0 = (refl, refl);
@@ -296,6 +304,8 @@ worked =
       plain-bytes = refl;
       frame-bytes = refl;
       empty-dictionary = refl;
+      codes = refl;
+      width-past-end = refl;
       zero-run = refl;
       output-front = refl;
       output-refused = refl;
