@@ -1,4 +1,4 @@
--- Bytes that occur at a place of a chunk. Reading a layout goes from part to part, so every law "what was written is read back" takes the written bytes where they
+-- Bytes that occur at a place of a chunk. Reading a layout goes from part to part, so every law on reading back takes the written bytes where they
 -- occur, whatever comes before and after; the laws here give the place of each part of a layout from that of the whole.
 use mathlib.Core.Path.{_≡_, sym, ap, _∙_}
 use Prim.Native.Nat.{ℕ, _+_, _-_, _≤_}
