@@ -1,0 +1,97 @@
+-- `varint::read_long` meets its contract. The loop's invariant is `Reading`, and its measure what is left up to the limit.
+use mathlib.Core.Path.{_≡_, ap, _∙_}
+use Prim.Native.Nat.{ℕ, _+_, _-_, _*_, _%_, _^_}
+use native.Mathlib.Omega.{arith}
+use lib.ListN.{getD}
+use borrow.Author.Needs.{needs}
+use Rattle.varint.proofs.Reading.{Reading, begin, again, answer-last, answer-long, answer-cut}
+use Rattle.varint.proofs.read_long.Statement.{statement}
+use Rattle.varint.proofs.read_long.Tie as tie
+
+abbrev Inv-loop : tie.InvT-loop
+Inv-loop bytes at end value₀ shift₀ pos₀ value shift pos = Reading bytes at value shift pos
+
+abbrev μ-loop : tie.MeasureT-loop
+μ-loop bytes at end value₀ shift₀ pos₀ value shift pos = end - pos
+
+read-limit-requires : tie.Need-read-limit-requires Inv-loop μ-loop
+read-limit-requires c κs = search needs
+
+shared-slice-read-group : tie.Need-shared-slice-read-group Inv-loop μ-loop
+shared-slice-read-group c = search needs
+
+group-requires : tie.Need-group-requires Inv-loop μ-loop
+group-requires c κs = tt
+
+add-pos : tie.Need-add-pos Inv-loop μ-loop
+add-pos c = search needs
+
+loop-holds : tie.Need-loop-holds Inv-loop μ-loop
+loop-holds c = rw (c .group .ensures) (begin _ _ (c .before .before .before .before .pre .0) (c .before .before .before .before .pre .1))
+
+shared-slice-read-b : tie.Need-shared-slice-read-b Inv-loop μ-loop
+shared-slice-read-b c = search needs
+
+group-requires-2 : tie.Need-group-requires-2 Inv-loop μ-loop
+group-requires-2 c κs = tt
+
+cast-wrapping-add-u64 : tie.Need-cast-wrapping-add-u64 Inv-loop μ-loop
+cast-wrapping-add-u64 c = search needs
+
+shl-wrapping-add-u64 : tie.Need-shl-wrapping-add-u64 Inv-loop μ-loop
+shl-wrapping-add-u64 c = search needs
+
+wrapping-add-u64-requires : tie.Need-wrapping-add-u64-requires Inv-loop μ-loop
+wrapping-add-u64-requires c κs = tt
+
+add-pos-2 : tie.Need-add-pos-2 Inv-loop μ-loop
+add-pos-2 c = search needs
+
+-- the sum, with one more group
+summed : (c : tie.After-wrapping-add-u64 Inv-loop μ-loop) →
+    let l = c .before .before .before .before .loop in
+    c .wrapping-add-u64 .result ≡ (l .value + (getD (c .before .before .before .before .before .before .before .before .before .args .bytes .now) (l .pos) 0 % 128 * 2 ^ l .shift) % 2 ^ 64) % 2 ^ 64
+summed c = let l = c .before .before .before .before .loop in
+    c .wrapping-add-u64 .ensures ∙ ap (λ (x : ℕ). (l .value + (x * 2 ^ l .shift) % 2 ^ 64) % 2 ^ 64) (c .before .group2 .ensures)
+
+returns : tie.Need-returns Inv-loop μ-loop
+returns c = rw (summed (c .before)) (answer-last (c .before .before .before .before .before .loop .inv) (omega arith) (omega arith) (c .if1 .taken))
+
+add-shift : tie.Need-add-shift Inv-loop μ-loop
+add-shift c = search needs
+
+loop-less : tie.Need-loop-less Inv-loop μ-loop
+loop-less c = search needs
+
+loop-again : tie.Need-loop-again Inv-loop μ-loop
+loop-again c = rw (summed (c .before)) (again (c .before .before .before .before .before .loop .inv) (omega arith) (omega arith) (c .if1 .left))
+
+returns-2 : tie.Need-returns-2 Inv-loop μ-loop
+returns-2 c = answer-long (c .before .before .loop .inv) (omega arith) (c .if2 .taken)
+
+returns-3 : tie.Need-returns-3 Inv-loop μ-loop
+returns-3 c = answer-cut (c .before .before .loop .inv) (c .if2 .left)
+
+pub read-long-spec : {M : Type 1} → statement M
+read-long-spec =
+    tie.close
+    (tie.spec
+    Inv-loop
+    μ-loop
+    read-limit-requires
+    shared-slice-read-group
+    group-requires
+    add-pos
+    loop-holds
+    shared-slice-read-b
+    group-requires-2
+    cast-wrapping-add-u64
+    shl-wrapping-add-u64
+    wrapping-add-u64-requires
+    add-pos-2
+    returns
+    add-shift
+    loop-less
+    loop-again
+    returns-2
+    returns-3)
