@@ -3,7 +3,7 @@
 use mathlib.Core.Path.{_≡_, refl, sym, ap, _∙_}
 use mathlib.Core.Bool.{true, not}
 use mathlib.Core.List.{List, [], _∷_, _++_, map, map-append}
-use Prim.Native.Nat.{ℕ, zero, suc, _+_, _-_, _*_, _%_, _^_, _≤_, _<_}
+use Prim.Native.Nat.{ℕ, suc, _+_, _-_, _*_, _%_, _^_, _≤_, _<_}
 use native.Mathlib.Nat.{le-refl, mul-comm}
 use native.Mathlib.Numerals.{add-one}
 use native.Mathlib.Omega.{arith}
@@ -49,8 +49,12 @@ slice-snoc from to s h k =
     let l : from ≤ length (take to s) = omega (arith, length-take-le to s (omega arith)) in
     ap (drop from) (take-suc s to 0 k) ∙ drop-append-le from (take to s) (getD s to 0 ∷ []) l
 
+-- a value, and a group that counts 2 ^ shift, as the machine adds them
+abbrev pub summed : ℕ → ℕ → ℕ → ℕ
+summed value group shift = (value + (group * 2 ^ shift) % 2 ^ 64) % 2 ^ 64
+
 value-more : (s : List ℕ) (at pos : ℕ) → at ≤ pos → pos < length s
-    → uvarintValue s at (pos + 1) ≡ (uvarintValue s at pos + (getD s pos 0 % 128 * 2 ^ ((pos - at) * 7)) % 2 ^ 64) % 2 ^ 64
+    → uvarintValue s at (pos + 1) ≡ summed (uvarintValue s at pos) (getD s pos 0 % 128) ((pos - at) * 7)
 unfolding uvarintValue ofDigits
 value-more s at pos h k =
     let l : length (map (λ b. b % 128) (slice at pos s)) ≡ pos - at = simp length-map (length-slice at pos s (omega arith)) in
@@ -92,8 +96,8 @@ answer-one s at h b =
 
 -- ---- the loop, after one byte or more
 
--- The bytes from `at` to `pos` are passed, and not the last of them is; `left` more may come. They are worth `value`, and the next counts 2 ^ shift.
-pub record Reading (s : List ℕ) (at value shift pos : ℕ) : Type 0 where
+-- The bytes from `at` to `pos` are passed, and none of them is the last; `left` more may come. They are worth `value`, and the next counts 2 ^ shift.
+pub record Reading (s : List ℕ) (at value pos shift : ℕ) : Type 0 where
   pub left : ℕ
   pub places : pos + left ≡ at + 10
   pub begun : at < pos
@@ -102,7 +106,7 @@ pub record Reading (s : List ℕ) (at value shift pos : ℕ) : Type 0 where
   pub sum : value ≡ uvarintValue s at pos
   pub walk : uvarintEnd at 10 (drop at s) at ≡ uvarintEnd at left (drop pos s) pos
 
-pub begin : (s : List ℕ) (at : ℕ) → at < length s → 128 ≤ getD s at 0 → Reading s at (getD s at 0 % 128) 7 (at + 1)
+pub begin : (s : List ℕ) (at : ℕ) → at < length s → 128 ≤ getD s at 0 → Reading s at (getD s at 0 % 128) (at + 1) 7
 begin s at h b =
     record {
       left = 9;
@@ -114,53 +118,44 @@ begin s at h b =
       walk = end-more s at at 9 h b;
     }
 
-module _ {s : List ℕ} {at value shift pos : ℕ} (r : Reading s at value shift pos) where
-  -- the value with the next group
-  abbrev with-next : ℕ
-  with-next = (value + (getD s pos 0 % 128 * 2 ^ shift) % 2 ^ 64) % 2 ^ 64
+module _ {s : List ℕ} {at value pos shift : ℕ} (r : Reading s at value pos shift) where
+  summed-is : pos < length s → summed value (getD s pos 0 % 128) shift ≡ uvarintValue s at (pos + 1)
+  summed-is h = rw (r .sum, r .weight) (sym (value-more s at pos (omega (arith, r .begun)) h))
 
-  with-next-is : pos < length s → with-next ≡ uvarintValue s at (pos + 1)
-  with-next-is h = rw (r .sum, r .weight) (sym (value-more s at pos (omega (arith, r .begun)) h))
+  -- with the next byte one fewer is left
+  walk-next : pos < at + 10 → uvarintEnd at 10 (drop at s) at ≡ uvarintEnd at (suc (r .left - 1)) (drop pos s) pos
+  walk-next l = let e : r .left ≡ suc (r .left - 1) = omega (arith, r .places) in rw e at (r .walk)
 
   -- it is not the last, and the loop goes on
-  pub again : pos < at + 10 → pos < length s → 128 ≤ getD s pos 0 → Reading s at with-next (shift + 7) (pos + 1)
-  again l h b = go (r .left) (r .places) (r .walk)
-    where
-      go : (left : ℕ) → pos + left ≡ at + 10 → uvarintEnd at 10 (drop at s) at ≡ uvarintEnd at left (drop pos s) pos → Reading s at with-next (shift + 7) (pos + 1)
-      go zero p w = absurd (omega arith)
-      go (suc left) p w =
-          record {
-            left = left;
-            places = omega arith;
-            begun = omega (arith, r .begun);
-            inside = omega arith;
-            weight = omega (arith, r .begun, r .weight);
-            sum = with-next-is h;
-            walk = w ∙ end-more s at pos left h b;
-          }
+  pub again : pos < at + 10 → pos < length s → 128 ≤ getD s pos 0 → Reading s at (summed value (getD s pos 0 % 128) shift) (pos + 1) (shift + 7)
+  again l h b =
+      record {
+        left = r .left - 1;
+        places = omega (arith, r .places);
+        begun = omega (arith, r .begun);
+        inside = omega arith;
+        weight = omega (arith, r .begun, r .weight);
+        sum = summed-is h;
+        walk = walk-next l ∙ end-more s at pos (r .left - 1) h b;
+      }
 
   -- it is the last
-  pub answer-last : pos < at + 10 → pos < length s → getD s pos 0 < 128 → Read with-next (pos + 1) (not (eqb (getD s pos 0) 0)) ≡ uvarintAnswer s at
+  pub answer-last : pos < at + 10 → pos < length s → getD s pos 0 < 128 → Read (summed value (getD s pos 0 % 128) shift) (pos + 1) (not (eqb (getD s pos 0) 0)) ≡ uvarintAnswer s at
   unfolding endsUnpadded
-  answer-last l h b = go (r .left) (r .places) (r .walk)
-    where
-      go : (left : ℕ) → pos + left ≡ at + 10 → uvarintEnd at 10 (drop at s) at ≡ uvarintEnd at left (drop pos s) pos
-          → Read with-next (pos + 1) (not (eqb (getD s pos 0) 0)) ≡ uvarintAnswer s at
-      go zero p w = absurd (omega arith)
-      go (suc left) p w =
-          let n : pos + 1 ≡ at + 1 → ⊥ = λ e. omega (arith, r .begun) in
-          let k : pos + 1 - 1 ≡ pos = omega arith in
-          rw (with-next-is h) (rw (ne-eqb (pos + 1) (at + 1) n, k) at (answer s at (w ∙ end-last s at pos left h b)))
+  answer-last l h b =
+      let n : pos + 1 ≡ at + 1 → ⊥ = λ e. omega (arith, r .begun) in
+      let k : pos + 1 - 1 ≡ pos = omega arith in
+      rw (summed-is h) (rw (ne-eqb (pos + 1) (at + 1) n, k) at (answer s at (walk-next l ∙ end-last s at pos (r .left - 1) h b)))
+
+  -- the bytes end
+  pub answer-cut : length s ≤ pos → Malformed 6 at ≡ uvarintAnswer s at
+  answer-cut h = answer s at (r .walk ∙ end-none s at pos (r .left) h)
 
   -- ten bytes were read, and none was the last
   pub answer-long : at + 10 ≤ pos → pos < length s → Malformed 7 at ≡ uvarintAnswer s at
   answer-long l h =
       let z : r .left ≡ 0 = omega (arith, r .places) in
       answer s at ((rw z at (r .walk)) ∙ end-eleventh s at pos h)
-
-  -- the bytes end
-  pub answer-cut : length s ≤ pos → Malformed 6 at ≡ uvarintAnswer s at
-  answer-cut h = answer s at (r .walk ∙ end-none s at pos (r .left) h)
 
 -- ---- signed
 

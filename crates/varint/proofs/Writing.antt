@@ -15,7 +15,7 @@ use Rattle.format.specs.Standalone.{uvarintWriteOutcome, uvarintWriteAnswer, uv
 use Rattle.format.specs.declared.Answer.the-variants.{Accepted, Refused}
 use Rattle.format.proofs.numbers.Uvarints.{length-uvarintBytes}
 use Rattle.format.proofs.numbers.Widths.{uvarintLen-pos}
-use Rattle.varint.proofs.Bytes.{uvarintLen-more, uvarintBytes-one, uvarintBytes-more}
+use Rattle.varint.proofs.Bytes.{uvarintLen-one, uvarintLen-more, uvarintBytes-one, uvarintBytes-more}
 
 -- ---- the answer and the output
 
@@ -28,7 +28,7 @@ module _ (x : ℕ) (output : List ℕ) where
   unfolding uvarintWriteOutput uvarintWriteOutcome
   refused-output h = rw (lt-leb _ _ h)
 
-  pub accepted-answer : uvarintLen x ≤ length output → Accepted (uvarintLen x) ≡ uvarintWriteAnswer x (length output)
+  accepted-answer : uvarintLen x ≤ length output → Accepted (uvarintLen x) ≡ uvarintWriteAnswer x (length output)
   unfolding uvarintWriteAnswer uvarintWriteOutcome
   accepted-answer h = rw (le-leb _ _ h) (ap Accepted (sym (length-uvarintBytes x)))
 
@@ -62,6 +62,10 @@ module _ {x : ℕ} {output out : List ℕ} {rest pos : ℕ} (w : Writing x outpu
         ends = omega (arith, w .ends, uvarintLen-more rest h (w .small));
         same = rw (add-one pos) (rw (uvarintBytes-more rest h (w .small)) at (w .same));
       }
+
+  -- the last byte is stored after all the others
+  pub answer-last : rest < 128 → Accepted (pos + 1) ≡ uvarintWriteAnswer x (length output)
+  answer-last h = ap Accepted (omega (arith, w .ends, uvarintLen-one rest h)) ∙ accepted-answer x output (w .room)
 
   pub output-last : rest < 128 → set out pos rest ≡ uvarintWriteOutput x output
   output-last h = sym (rw (uvarintBytes-one rest h) at (w .same)) ∙ accepted-output x output (w .room)

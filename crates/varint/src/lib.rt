@@ -2,6 +2,7 @@
 // is a place passed in and the next place handed back; the `Vec` that it appends to is the front of a lent slice.
 ghost use mathlib.Core.Path.{_≡_};
 ghost use Prim.Native.Nat.{_+_, _%_, _≤_, _<_, min};
+ghost use lib.Dec.{ltb};
 ghost use lib.ListN.{length, getD};
 ghost use Rattle.format.specs.Varint.{uvarintLen, varintLen};
 ghost use Rattle.format.specs.Standalone.{uvarintAnswer, varintAnswer, uvarintWriteAnswer, uvarintWriteOutput, varintWriteAnswer, varintWriteOutput};
@@ -35,7 +36,7 @@ fn group(b: u8) -> u64
     (b & 0x7f) as u64
 }
 
-// Where a varint that begins at `at` must have ended: ten bytes on, or with the bytes.
+// Where a varint that begins at `at` must have ended: ten bytes on, or where the bytes end.
 fn read_limit(len: usize, at: usize) -> usize
     requires { ⌜ at ≤ len ⌝ }
     ensures { λ r. ⌜ r ≡ min len (at + 10) ⌝ }
@@ -43,15 +44,16 @@ fn read_limit(len: usize, at: usize) -> usize
     if len - at < 10 { len } else { at + 10 }
 }
 
-// The varint at `at`, whose first byte is there and not its last. It ends before `end` or is refused.
+// The varint at `at`, whose first byte is there and not its last. One limit stands for both questions, so that a byte costs two
+// tests; past it the cut is asked before the eleventh byte.
 fn read_long(bytes: &[u8], at: usize) -> UvarintAnswer
     requires { ⌜ (at < length (now bytes)) × (128 ≤ getD (now bytes) at 0) ⌝ }
     ensures { λ r. ⌜ r ≡ uvarintAnswer (now (bytes .entry)) at ⌝ }
 {
     let end = read_limit(bytes.len(), at);
     let mut value = group(bytes[at]);
-    let mut shift: u32 = 7;
     let mut pos = at + 1;
+    let mut shift: u32 = 7;
     while pos < end {
         let b = bytes[pos];
         value = std::num::wrapping_add_u64(value, group(b) << shift);
@@ -61,10 +63,10 @@ fn read_long(bytes: &[u8], at: usize) -> UvarintAnswer
         }
         shift += 7;
     }
-    if pos < bytes.len() {
-        return UvarintAnswer::Malformed(format::refusal::VARINT_TOO_LONG, at);
+    if bytes.len() <= pos {
+        return UvarintAnswer::Malformed(format::refusal::VARINT_CUT, at);
     }
-    UvarintAnswer::Malformed(format::refusal::VARINT_CUT, at)
+    UvarintAnswer::Malformed(format::refusal::VARINT_TOO_LONG, at)
 }
 
 // Reads the varint that begins at a place, past the end or not. Most are of one byte, which is asked first.
@@ -96,14 +98,23 @@ pub fn read_varint(bytes: &[u8], at: usize) -> VarintAnswer
     }
 }
 
+// Whether `space` bytes are too few for a varint. It is measured only where they are fewer than ten, which is enough for any.
+fn too_short(space: usize, value: u64) -> bool
+    ensures { λ r. ⌜ r ≡ ltb space (uvarintLen value) ⌝ }
+{
+    if 10 <= space {
+        return false;
+    }
+    space < uvarint_len(value)
+}
+
 // Stores a varint at the front of `out`; refused, with the length needed, it stores nothing.
 pub fn write_uvarint(value: u64, out: &mut [u8]) -> Answer
     ensures { λ r. ⌜ r ≡ uvarintWriteAnswer value (length (now (out .entry))) ⌝ }
     ensures { λ r. ⌜ now (out .exit) ≡ uvarintWriteOutput value (now (out .entry)) ⌝ }
 {
-    let needed = uvarint_len(value);
-    if out.len() < needed {
-        return Answer::Refused(format::refusal::BUFFER_TOO_SHORT, needed);
+    if too_short(out.len(), value) {
+        return Answer::Refused(format::refusal::BUFFER_TOO_SHORT, uvarint_len(value));
     }
     let mut rest = value;
     let mut pos = 0;
@@ -113,7 +124,7 @@ pub fn write_uvarint(value: u64, out: &mut [u8]) -> Answer
         pos += 1;
     }
     out[pos] = rest as u8;
-    Answer::Accepted(needed)
+    Answer::Accepted(pos + 1)
 }
 
 // The same for a signed varint.

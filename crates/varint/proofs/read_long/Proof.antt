@@ -1,18 +1,18 @@
--- `varint::read_long` meets its contract. The loop's invariant is `Reading`, and its measure what is left up to the limit.
+-- `varint::read_long` meets its contract. The loop's invariant is `Reading`; its measure is what is left up to the limit.
 use mathlib.Core.Path.{_≡_, ap, _∙_}
-use Prim.Native.Nat.{ℕ, _+_, _-_, _*_, _%_, _^_}
+use Prim.Native.Nat.{ℕ, _-_, _%_}
 use native.Mathlib.Omega.{arith}
 use lib.ListN.{getD}
 use borrow.Author.Needs.{needs}
-use Rattle.varint.proofs.Reading.{Reading, begin, again, answer-last, answer-long, answer-cut}
+use Rattle.varint.proofs.Reading.{Reading, begin, summed, again, answer-last, answer-cut, answer-long}
 use Rattle.varint.proofs.read_long.Statement.{statement}
 use Rattle.varint.proofs.read_long.Tie as tie
 
 abbrev Inv-loop : tie.InvT-loop
-Inv-loop bytes at end value₀ shift₀ pos₀ value shift pos = Reading bytes at value shift pos
+Inv-loop bytes at end value₀ pos₀ shift₀ value pos shift = Reading bytes at value pos shift
 
 abbrev μ-loop : tie.MeasureT-loop
-μ-loop bytes at end value₀ shift₀ pos₀ value shift pos = end - pos
+μ-loop bytes at end value₀ pos₀ shift₀ value pos shift = end - pos
 
 read-limit-requires : tie.Need-read-limit-requires Inv-loop μ-loop
 read-limit-requires c κs = search needs
@@ -27,7 +27,7 @@ add-pos : tie.Need-add-pos Inv-loop μ-loop
 add-pos c = search needs
 
 loop-holds : tie.Need-loop-holds Inv-loop μ-loop
-loop-holds c = rw (c .group .ensures) (begin _ _ (c .before .before .before .before .pre .0) (c .before .before .before .before .pre .1))
+loop-holds c = let start = c .before .before .before .before in rw (c .group .ensures) (begin _ _ (start .pre .0) (start .pre .1))
 
 shared-slice-read-b : tie.Need-shared-slice-read-b Inv-loop μ-loop
 shared-slice-read-b c = search needs
@@ -47,15 +47,17 @@ wrapping-add-u64-requires c κs = tt
 add-pos-2 : tie.Need-add-pos-2 Inv-loop μ-loop
 add-pos-2 c = search needs
 
--- the sum, with one more group
-summed : (c : tie.After-wrapping-add-u64 Inv-loop μ-loop) →
+-- the value with one more group
+added : (c : tie.After-wrapping-add-u64 Inv-loop μ-loop) → let l = c .before .before .before .before .loop in
+    let bytes = c .before .before .before .before .before .before .before .before .before .args .bytes .now in
+    c .wrapping-add-u64 .result ≡ summed (l .value) (getD bytes (l .pos) 0 % 128) (l .shift)
+added c =
     let l = c .before .before .before .before .loop in
-    c .wrapping-add-u64 .result ≡ (l .value + (getD (c .before .before .before .before .before .before .before .before .before .args .bytes .now) (l .pos) 0 % 128 * 2 ^ l .shift) % 2 ^ 64) % 2 ^ 64
-summed c = let l = c .before .before .before .before .loop in
-    c .wrapping-add-u64 .ensures ∙ ap (λ (x : ℕ). (l .value + (x * 2 ^ l .shift) % 2 ^ 64) % 2 ^ 64) (c .before .group2 .ensures)
+    c .wrapping-add-u64 .ensures ∙ ap (λ (g : ℕ). summed (l .value) g (l .shift)) (c .before .group2 .ensures)
 
 returns : tie.Need-returns Inv-loop μ-loop
-returns c = rw (summed (c .before)) (answer-last (c .before .before .before .before .before .loop .inv) (omega arith) (omega arith) (c .if1 .taken))
+returns c =
+    rw (added (c .before)) (answer-last (c .before .before .before .before .before .loop .inv) (omega arith) (omega arith) (c .if1 .taken))
 
 add-shift : tie.Need-add-shift Inv-loop μ-loop
 add-shift c = search needs
@@ -64,13 +66,13 @@ loop-less : tie.Need-loop-less Inv-loop μ-loop
 loop-less c = search needs
 
 loop-again : tie.Need-loop-again Inv-loop μ-loop
-loop-again c = rw (summed (c .before)) (again (c .before .before .before .before .before .loop .inv) (omega arith) (omega arith) (c .if1 .left))
+loop-again c = rw (added (c .before)) (again (c .before .before .before .before .before .loop .inv) (omega arith) (omega arith) (c .if1 .left))
 
 returns-2 : tie.Need-returns-2 Inv-loop μ-loop
-returns-2 c = answer-long (c .before .before .loop .inv) (omega arith) (c .if2 .taken)
+returns-2 c = answer-cut (c .before .before .loop .inv) (c .if2 .taken)
 
 returns-3 : tie.Need-returns-3 Inv-loop μ-loop
-returns-3 c = answer-cut (c .before .before .loop .inv) (c .if2 .left)
+returns-3 c = answer-long (c .before .before .loop .inv) (omega arith) (c .if2 .left)
 
 pub read-long-spec : {M : Type 1} → statement M
 read-long-spec =
