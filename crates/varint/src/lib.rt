@@ -45,7 +45,7 @@ fn read_limit(len: usize, at: usize) -> usize
 }
 
 // The varint at `at`, whose first byte is there and not its last. One limit stands for both questions, so that a byte costs two
-// tests; past it the cut is asked before the eleventh byte.
+// tests; past it, an eleventh byte must be there to be one too many, else the varint is cut.
 fn read_long(bytes: &[u8], at: usize) -> UvarintAnswer
     requires { ⌜ (at < length (now bytes)) × (128 ≤ getD (now bytes) at 0) ⌝ }
     ensures { λ r. ⌜ r ≡ uvarintAnswer (now (bytes .entry)) at ⌝ }
@@ -63,10 +63,10 @@ fn read_long(bytes: &[u8], at: usize) -> UvarintAnswer
         }
         shift += 7;
     }
-    if bytes.len() <= pos {
-        return UvarintAnswer::Malformed(format::refusal::VARINT_CUT, at);
+    if pos < bytes.len() {
+        return UvarintAnswer::Malformed(format::refusal::VARINT_TOO_LONG, at);
     }
-    UvarintAnswer::Malformed(format::refusal::VARINT_TOO_LONG, at)
+    UvarintAnswer::Malformed(format::refusal::VARINT_CUT, at)
 }
 
 // Reads the varint that begins at a place, past the end or not. Most are of one byte, which is asked first.

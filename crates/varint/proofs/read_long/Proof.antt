@@ -69,10 +69,10 @@ loop-again : tie.Need-loop-again Inv-loop μ-loop
 loop-again c = rw (added (c .before)) (again (c .before .before .before .before .before .loop .inv) (omega arith) (omega arith) (c .if1 .left))
 
 returns-2 : tie.Need-returns-2 Inv-loop μ-loop
-returns-2 c = answer-cut (c .before .before .loop .inv) (c .if2 .taken)
+returns-2 c = answer-long (c .before .before .loop .inv) (omega arith) (c .if2 .taken)
 
 returns-3 : tie.Need-returns-3 Inv-loop μ-loop
-returns-3 c = answer-long (c .before .before .loop .inv) (omega arith) (c .if2 .left)
+returns-3 c = answer-cut (c .before .before .loop .inv) (c .if2 .left)
 
 pub read-long-spec : {M : Type 1} → statement M
 read-long-spec =
