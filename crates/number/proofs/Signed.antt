@@ -1,5 +1,5 @@
--- Signed numbers as the machine holds them, joined to the definitions of keys: a parameter is read back from its bits (`toZ w64 (ofZ w64 z)`), its bits are its
--- residue, and bits read as signed are `asSigned`. All of it goes by the two cases of the sign, which omega closes.
+-- Signed numbers as the machine holds them, joined to the definitions of keys: a parameter is read back from its bits (`toZ w64 (ofZ w64 z)`), and
+-- bits read as signed are `asSigned`, whose residue they are. All of it goes by the two cases of the sign, which omega closes.
 use mathlib.Core.Path.{_≡_, refl, sym, ap, _∙_}
 use mathlib.Core.Bool.{Bool, true, false, cond}
 use Prim.Native.Nat.{ℕ, zero, suc, _+_, _-_, _%_, _^_, _<_}

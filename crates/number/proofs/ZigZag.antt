@@ -1,4 +1,5 @@
--- ZigZag over the definitions: each number is the ZigZag of one key, and a key's varint gets no shorter away from 0, on either side, since the ZigZag rises there.
+-- ZigZag over the definitions: each number is the ZigZag of one key, and a key's varint gets no shorter away from 0, on either side, since the ZigZag rises
+-- there.
 use mathlib.Core.Path.{_≡_, refl}
 use mathlib.Core.Bool.{Bool, true, false, cond}
 use Prim.Native.Nat.{ℕ, _+_, _*_, _/_, _%_, _≤_}

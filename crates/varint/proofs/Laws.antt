@@ -89,7 +89,8 @@ read-holds s at v e = go (uvarintEnd at 10 (drop at s) at) refl e
     found : ℕ → UvarintRead
     found next = record { value = uvarintValue s at next; next = next; unpadded = endsUnpadded s at next }
 
-    go : (end : Outcome ℕ) → uvarintEnd at 10 (drop at s) at ≡ end → (end >>= (λ next. ok (found next))) ≡ ok v → (at < v .next) × (v .value < 128 ^ (v .next - at))
+    go : (end : Outcome ℕ) → uvarintEnd at 10 (drop at s) at ≡ end → (end >>= (λ next. ok (found next))) ≡ ok v
+        → (at < v .next) × (v .value < 128 ^ (v .next - at))
     go (refused number offset) p h = let z : _≡_ {A = ℕ} 0 1 = cc in absurd (omega arith)
     go (ok next) p h =
         let q : found next ≡ v = cc in

@@ -1,5 +1,5 @@
--- Reading a varint byte by byte, as `read_uvarint` and the loop of `read_long` do: the walk to the end goes on from the next place, and the value so far is that
--- of the bytes passed. `Reading` is the loop's invariant; the other laws give it at the start, keep it for a turn, and give the answer at each exit.
+-- Reading a varint byte by byte, as `read_uvarint` and the loop of `read_long` do: the walk to the end goes on from the next place, and the value so far is
+-- that of the bytes passed. `Reading` is the loop's invariant; the other laws give it at the start, keep it for a turn, and give the answer at each exit.
 use mathlib.Core.Path.{_≡_, refl, sym, ap, _∙_}
 use mathlib.Core.Bool.{true, not}
 use mathlib.Core.List.{List, [], _∷_, _++_, map, map-append}
@@ -140,7 +140,8 @@ module _ {s : List ℕ} {at value pos shift : ℕ} (r : Reading s at value pos s
       }
 
   -- it is the last
-  pub answer-last : pos < at + 10 → pos < length s → getD s pos 0 < 128 → Read (summed value (getD s pos 0 % 128) shift) (pos + 1) (not (eqb (getD s pos 0) 0)) ≡ uvarintAnswer s at
+  pub answer-last : pos < at + 10 → pos < length s → getD s pos 0 < 128
+      → Read (summed value (getD s pos 0 % 128) shift) (pos + 1) (not (eqb (getD s pos 0) 0)) ≡ uvarintAnswer s at
   unfolding endsUnpadded
   answer-last l h b =
       let n : pos + 1 ≡ at + 1 → ⊥ = λ e. omega (arith, r .begun) in

@@ -1,5 +1,5 @@
--- The loop of `write_uvarint` on lists: what is still to be stored is the varint of the rest, and once it is stored the output is as it should be. `Writing` is the
--- loop's invariant; the other laws give it at the start, keep it for a turn, and give the output at the end and the answer by whether there is room.
+-- The loop of `write_uvarint` on lists: what is still to be stored is the varint of the rest, and once it is stored the output is as it should be. `Writing`
+-- is the loop's invariant; the other laws give it at the start, keep it for a turn, and give the output at the end and the answer by whether there is room.
 use mathlib.Core.Path.{_≡_, refl, sym, ap, _∙_}
 use mathlib.Core.List.{List}
 use Prim.Native.Nat.{ℕ, _+_, _/_, _%_, _^_, _≤_, _<_}

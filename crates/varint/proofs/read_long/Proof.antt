@@ -57,7 +57,7 @@ added c =
 
 returns : tie.Need-returns Inv-loop μ-loop
 returns c =
-    rw (added (c .before)) (answer-last (c .before .before .before .before .before .loop .inv) (omega arith) (omega arith) (c .if1 .taken))
+    rw (added (c .before)) (answer-last (c .before .before .before .before .before .loop .inv) (omega arith) (omega arith) (omega arith))
 
 add-shift : tie.Need-add-shift Inv-loop μ-loop
 add-shift c = search needs
@@ -66,7 +66,7 @@ loop-less : tie.Need-loop-less Inv-loop μ-loop
 loop-less c = search needs
 
 loop-again : tie.Need-loop-again Inv-loop μ-loop
-loop-again c = rw (added (c .before)) (again (c .before .before .before .before .before .loop .inv) (omega arith) (omega arith) (c .if1 .left))
+loop-again c = rw (added (c .before)) (again (c .before .before .before .before .before .loop .inv) (omega arith) (omega arith) (omega arith))
 
 returns-2 : tie.Need-returns-2 Inv-loop μ-loop
 returns-2 c = answer-long (c .before .before .loop .inv) (omega arith) (c .if2 .taken)

@@ -1,5 +1,6 @@
 -- `varint::write_uvarint` meets its contract. The loop's invariant is `Writing`; its measure is the rest.
 use mathlib.Core.Path.{sym, ap, _∙_}
+use Prim.Native.Nat.{_<_}
 use native.Mathlib.Omega.{arith}
 use lib.ListN.{length-set}
 use borrow.Author.Needs.{needs}
@@ -48,7 +49,7 @@ loop-less : tie.Need-loop-less Inv-loop μ-loop
 loop-less c = search needs
 
 loop-again : tie.Need-loop-again Inv-loop μ-loop
-loop-again c = again (c .before .loop .inv) (c .loop-test .taken)
+loop-again c = again (c .before .loop .inv) (omega arith)
 
 cast-out-2 : tie.Need-cast-out-2 Inv-loop μ-loop
 cast-out-2 c = search needs
@@ -60,10 +61,13 @@ add-t6 : tie.Need-add-t6 Inv-loop μ-loop
 add-t6 c = omega (arith, inside (c .before .loop .inv))
 
 same-length : tie.Need-same-length Inv-loop μ-loop
-same-length c = let l = c .before .loop in length-set (l .out) (l .pos) (l .rest) ∙ l .inv .long
+same-length c = simp length-set (c .before .loop .inv .long)
 
 returns-2 : tie.Need-returns-2 Inv-loop μ-loop
-returns-2 c = let w = c .before .loop .inv in (answer-last w (c .loop-test .left), output-last w (c .loop-test .left))
+returns-2 c =
+    let w = c .before .loop .inv in
+    let h : c .before .loop .rest < 128 = omega arith in
+    (answer-last w h, output-last w h)
 
 pub write-uvarint-spec : {M : Type 1} → statement M
 write-uvarint-spec =
