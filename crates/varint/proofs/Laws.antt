@@ -1,20 +1,19 @@
 -- What the calls give together. What was written is read back, at any place and whatever comes before and after (format's laws on reading what occurs). And it
--- is written shortest: so many groups of seven bits hold no more than that many digits in base 128, whatever bytes were read.
-use mathlib.Core.Path.{_≡_, refl, sym, ap, _∙_}
-use mathlib.Core.Bool.{Bool, true, false, cond}
-use mathlib.Core.List.{List, [], _∷_, _++_, map}
-use Prim.Native.Nat.{ℕ, zero, suc, _+_, _-_, _%_, _^_, _≤_, _<_}
+-- is written shortest: the groups that are read make a number below 128 to their count, so they are as many as its written form has, or more.
+use mathlib.Core.Path.{_≡_, sym, ap, _∙_}
+use mathlib.Core.Bool.{true}
+use mathlib.Core.List.{List, [], _++_, map}
+use Prim.Native.Nat.{ℕ, _+_, _-_, _%_, _^_, _≤_, _<_}
 use native.Mathlib.Nat.{zero-add, zero-lt-suc, lt-of-le-of-lt, mod-le}
 use native.Mathlib.Omega.{arith}
 use lib.IntN.{ℤ}
-use lib.ListN.{length, drop, length-drop, length-map}
+use lib.ListN.{length, drop, length-map}
 use lib.Seq.{slice, length-slice}
-use lib.Dec.{ltb}
 use borrow.Author.Tests.{le-leb}
-use Rattle.format.specs.Outcome.{Outcome, refused, ok, _>>=_}
+use Rattle.format.specs.Outcome.{ok}
 use Rattle.format.specs.Keys.{Key, zigzag}
 use Rattle.format.specs.Answers.{stored}
-use Rattle.format.specs.Varint.{uvarintLen, uvarintBytes, varintLen, varintBytes, uvarintEnd, uvarintValue, endsUnpadded, UvarintRead, readUvarint}
+use Rattle.format.specs.Varint.{uvarintLen, uvarintBytes, varintLen, varintBytes, uvarintValue, UvarintRead, readUvarint}
 use Rattle.format.specs.Standalone.{uvarintAnswerOf, uvarintAnswer, varintAnswer, uvarintWriteOutcome, uvarintWriteOutput, varintWriteOutput}
 use Rattle.format.specs.declared.UvarintAnswer.the-variants.{Read}
 use Rattle.format.specs.declared.VarintAnswer.the-variants.{Read as SignedRead}
@@ -23,6 +22,7 @@ use Rattle.format.proofs.numbers.Keys.{unzigzag-zigzag, zigzag-lt}
 use Rattle.format.proofs.numbers.Occurs.{occurs-middle}
 use Rattle.format.proofs.numbers.Uvarints.{length-uvarintBytes, readUvarint-back}
 use Rattle.format.proofs.numbers.Widths.{uvarintLen-least}
+use Rattle.varint.proofs.Answers.{read-range}
 use Rattle.varint.proofs.Reading.{signedOf, signed-answer}
 
 -- ---- read back
@@ -61,19 +61,6 @@ varintWriteOutput-back v output h k =
 
 -- ---- shortest
 
--- a walk that ends has passed a byte, and none that is not there
-end-range : (start left : ℕ) (rest : List ℕ) (at next : ℕ) → uvarintEnd start left rest at ≡ ok next → (at < next) × (next ≤ at + length rest)
-unfolding uvarintEnd
-end-range start left [] at next e = let z : _≡_ {A = ℕ} 0 1 = cc in absurd (omega arith)
-end-range start zero (b ∷ rest) at next e = let z : _≡_ {A = ℕ} 0 1 = cc in absurd (omega arith)
-end-range start (suc left) (b ∷ rest) at next e = go (ltb b 128) e (end-range start left rest (at + 1) next)
-  where
-    go : (last : Bool) → cond last (ok (at + 1)) (uvarintEnd start left rest (at + 1)) ≡ ok next
-        → (uvarintEnd start left rest (at + 1) ≡ ok next → (at + 1 < next) × (next ≤ at + 1 + length rest))
-        → (at < next) × (next ≤ at + suc (length rest))
-    go true h i = let n : at + 1 ≡ next = cc in (omega arith, omega arith)
-    go false h i = (omega (arith, i h .0), omega (arith, i h .1))
-
 -- so many groups are worth less than 128 to their number
 value-lt : (s : List ℕ) (at next : ℕ) → next ≤ length s → uvarintValue s at next < 128 ^ (next - at)
 unfolding uvarintValue
@@ -81,23 +68,8 @@ value-lt s at next h =
     let l : length (map (λ b. b % 128) (slice at next s)) ≡ next - at = simp length-map (length-slice at next s h) in
     lt-of-le-of-lt (mod-le _ _) (rw l at (ofDigits-lt (below-map 128 (zero-lt-suc 127) (slice at next s))))
 
--- a varint that is read has a byte at least, and as many as hold its value
-pub read-holds : (s : List ℕ) (at : ℕ) (v : UvarintRead) → readUvarint s at ≡ ok v → (at < v .next) × (v .value < 128 ^ (v .next - at))
-unfolding readUvarint
-read-holds s at v e = go (uvarintEnd at 10 (drop at s) at) refl e
-  where
-    found : ℕ → UvarintRead
-    found next = record { value = uvarintValue s at next; next = next; unpadded = endsUnpadded s at next }
-
-    go : (end : Outcome ℕ) → uvarintEnd at 10 (drop at s) at ≡ end → (end >>= (λ next. ok (found next))) ≡ ok v
-        → (at < v .next) × (v .value < 128 ^ (v .next - at))
-    go (refused number offset) p h = let z : _≡_ {A = ℕ} 0 1 = cc in absurd (omega arith)
-    go (ok next) p h =
-        let q : found next ≡ v = cc in
-        let r = end-range at 10 (drop at s) at next p in
-        rw (← q) (r .0, value-lt s at next (omega (arith, length-drop at s, r .0, r .1)))
-
 -- WRITTEN SHORTEST: no varint that is read as a value has fewer bytes than the value's written form
 pub written-shortest : (s : List ℕ) (at : ℕ) (v : UvarintRead) → readUvarint s at ≡ ok v → uvarintLen (v .value) ≤ v .next - at
 written-shortest s at v e =
-    let r = read-holds s at v e in uvarintLen-least (v .value) (v .next - at) (omega (arith, r .0)) (r .1)
+    let r = read-range s at v e in
+    uvarintLen-least (v .value) (v .next - at) (omega (arith, r .0)) (rw (r .2) (value-lt s at (v .next) (r .1)))

@@ -1,4 +1,5 @@
 pub mod Bytes
 pub mod Reading
 pub mod Writing
+pub mod Answers
 pub mod Laws
