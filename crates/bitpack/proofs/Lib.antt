@@ -1,0 +1,8 @@
+pub mod Digits
+pub mod Bytes
+pub mod Fields
+pub mod Stores
+pub mod Parts
+pub mod PackingLaws
+pub mod Packer
+pub mod Unpacker

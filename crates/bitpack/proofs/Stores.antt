@@ -1,0 +1,74 @@
+-- Lists of stores: a front that a loop fills element by element, a run of bytes from a place on, and what a later part of the buffer still holds. A store is a
+-- `set`; each law splits the list at the place.
+use mathlib.Core.Path.{_≡_, sym, ap, ap₂, _∙_}
+use Prim.Native.Nat.{ℕ, zero, suc, _+_, _-_, _/_, _%_, _^_, _≤_, _<_}
+use native.Mathlib.Nat.{add-zero, add-suc, suc-add}
+use native.Mathlib.Numerals.{add-one, towards-suc}
+use native.Mathlib.Omega.{arith}
+use mathlib.Core.List.{List, [], _∷_, _++_}
+use lib.ListN.{length, getD, set, drop, length-append, length-drop}
+use lib.Seq.{drop-cons, set-at, append-snoc, sets, sets-eq, take-at, drop-at, drop-append-add, drop-drop}
+use Rattle.format.specs.Digits.{digits}
+use Rattle.format.proofs.numbers.Digits.{length-digits}
+use Rattle.bitpack.proofs.Digits.{digits-add}
+
+-- ---- a front over what was there
+
+module _ (f l : List ℕ) (k : ℕ) (e : length f ≡ k) where
+  -- one element more
+  pub fill-step : (v : ℕ) → k < length l → set (f ++ drop k l) k v ≡ (f ++ (v ∷ [])) ++ drop (k + 1) l
+  fill-step v h =
+      ap (λ (r : List ℕ). set (f ++ r) k v) (drop-cons l k 0 h)
+      ∙ set-at f (getD l k 0) (drop (suc k) l) v k e
+      ∙ sym (append-snoc f v (drop (suc k) l))
+      ∙ ap (λ (n : ℕ). (f ++ (v ∷ [])) ++ drop n l) (sym (add-one k))
+
+  -- a run more
+  pub store-run : (g : List ℕ) (n : ℕ) → length g ≡ n → k + n ≤ length l → sets (f ++ drop k l) k g ≡ (f ++ g) ++ drop (k + n) l
+  store-run g n eg h =
+      let whole = f ++ drop k l in
+      let room : k + length g ≤ length whole = omega (arith, length-append f (drop k l), length-drop k l) in
+      sets-eq g whole k room
+      ∙ ap₂ (λ (a b : List ℕ). a ++ g ++ b) (take-at f (drop k l) k e)
+      (ap₂ (λ (a b : ℕ). drop (a + b) whole) (sym e) eg ∙ drop-append-add f (drop k l) n ∙ drop-drop n k l)
+
+  module _ {o : List ℕ} (eo : o ≡ f ++ drop k l) where
+    -- the same front over itself
+    pub front-again : o ≡ f ++ drop k o
+    front-again = eo ∙ ap (λ (r : List ℕ). f ++ r) (sym (drop-at f (drop k l) k e) ∙ ap (drop k) (sym eo))
+
+    -- past the front nothing changed
+    pub front-past : (n : ℕ) → k ≤ n → drop n o ≡ drop n l
+    front-past n h =
+        let en : k + (n - k) ≡ n = omega arith in
+        ap (λ (i : ℕ). drop i o) (sym en)
+        ∙ ap₂ (λ (i : ℕ) (r : List ℕ). drop (i + (n - k)) r) (sym e) eo
+        ∙ drop-append-add f (drop k l) (n - k)
+        ∙ drop-drop (n - k) k l
+        ∙ ap (λ (i : ℕ). drop i l) en
+
+-- ---- the bytes of a number
+
+sets-append : (a b l : List ℕ) (i : ℕ) → sets l i (a ++ b) ≡ sets (sets l i a) (i + length a) b
+sets-append [] b l i = ap (λ (k : ℕ). sets l k b) (sym (add-zero i))
+sets-append (x ∷ a) b l i =
+    sets-append a b (set l i x) (suc i) ∙ ap (λ (k : ℕ). sets (sets (set l i x) (suc i) a) k b) (suc-add i (length a) ∙ sym (add-suc i (length a)))
+
+-- one byte more of x, from p on
+pub tail-step : (x j p : ℕ) (l : List ℕ) {y v : ℕ} {out : List ℕ} → out ≡ sets l p (digits 256 j x) → y ≡ x / 256 ^ j → v ≡ y % 256
+    → set out (p + j) v ≡ sets l p (digits 256 (j + 1) x)
+unfolding digits
+tail-step x j p l {y} {v} {out} eo ey ev =
+    ap₂ (λ (o : List ℕ) (z : ℕ). set o (p + j) z) eo (ev ∙ ap (λ (z : ℕ). z % 256) ey)
+    ∙ ap (λ (k : ℕ). set (sets l p (digits 256 j x)) (p + k) (x / 256 ^ j % 256)) (sym (length-digits 256 j x))
+    ∙ sym (sets-append (digits 256 j x) (x / 256 ^ j % 256 ∷ []) l p)
+    ∙ ap (sets l p) (sym (digits-add 256 j 1 x))
+
+-- eight stores are a run
+pub eight : (l : List ℕ) (p x : ℕ)
+    → set (set (set (set (set (set (set (set l p (x % 256)) (p + 1) (x / 256 % 256)) (p + 2) (x / 256 / 256 % 256)) (p + 3) (x / 256 / 256 / 256 % 256))
+    (p + 4) (x / 256 / 256 / 256 / 256 % 256)) (p + 5) (x / 256 / 256 / 256 / 256 / 256 % 256)) (p + 6) (x / 256 / 256 / 256 / 256 / 256 / 256 % 256))
+    (p + 7) (x / 256 / 256 / 256 / 256 / 256 / 256 / 256 % 256)
+    ≡ sets l p (digits 256 8 x)
+unfolding digits
+eight l p x = simp towards-suc

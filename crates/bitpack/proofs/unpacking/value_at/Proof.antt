@@ -1,0 +1,31 @@
+-- The word, and the byte after it, are parts of the number that the bytes make: the rest is the laws of fields.
+use mathlib.Core.Path.{_∙_, sym}
+use Prim.Native.Nat.{_+_, _/_}
+use denote.Ref.{now}
+use borrow.Author.Needs.{needs}
+use Rattle.format.specs.Digits.{ofDigits}
+use Rattle.format.proofs.numbers.All.{all-by}
+use Rattle.bitpack.proofs.Digits.{ofDigits-at}
+use Rattle.bitpack.proofs.Fields.{low-bits, nine-bytes}
+use Rattle.bitpack.proofs.unpacking.value_at.Statement.{statement}
+use Rattle.bitpack.proofs.unpacking.value_at.Tie as tie
+
+returns : tie.Need-returns
+returns c =
+    let a = c .before .before .before .args in
+    low-bits (ofDigits 256 (now (a .s))) (a .bit) (a .w) (c .before .load .ensures) (c .before .before .before .pre .1) (c .if1 .taken)
+
+returns-2 : tie.Need-returns-2
+returns-2 c =
+    let a = c .before .before .before .before .args in
+    let pre = c .before .before .before .before .pre in
+    let known = c .before .before .before .shared-slice-known .given in
+    nine-bytes (ofDigits 256 (now (a .s))) (a .bit) (a .w) (c .before .before .load .ensures) (pre .1)
+    (c .byte-at .ensures .0 ∙ sym (ofDigits-at (a .bit / 8 + 8) (all-by (now (a .s)) 0 λ i _. known i .fits)))
+    (pre .0)
+
+pub value-at-spec : {M : Type 1} → statement M
+value-at-spec =
+    tie.close
+    (tie.spec (λ c κs. search needs) (λ c. search needs) (λ c. search needs) returns
+    (λ c. search needs) (λ c κs. search needs) (λ c. search needs) (λ c. search needs) returns-2)
