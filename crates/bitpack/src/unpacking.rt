@@ -4,6 +4,7 @@ ghost use mathlib.Core.List.{_++_};
 ghost use Prim.Native.Nat.{_-_, _/_, _%_, _^_, _<_, _≤_};
 ghost use lib.ListN.{length, drop};
 ghost use Rattle.format.specs.Digits.{ofDigits};
+ghost use Rattle.format.specs.Encodings.{maxChunkElements};
 ghost use Rattle.format.specs.Packing.{unpacked};
 ghost use Rattle.bitpack.specs.Loads.{Within};
 use crate::words::byte_at;
@@ -46,7 +47,7 @@ fn within(len: usize, w: usize, n: usize) -> usize
 
 // Those k values: one load, shift and mask for each.
 fn unpack_words(s: &[u8], w: usize, m: u64, k: usize, out: &mut [u64])
-    requires { ⌜ (m ≡ 2 ^ w - 1) × (k ≤ length (now out)) × (k ≤ 16777216) × Within (length (now s)) w k k ⌝ }
+    requires { ⌜ (m ≡ 2 ^ w - 1) × (k ≤ length (now out)) × (k ≤ maxChunkElements) × Within (length (now s)) w k k ⌝ }
     ensures { λ _. ⌜ now (out .exit) ≡ unpacked w k (now (s .entry)) ++ drop k (now (out .entry)) ⌝ }
 {
     for i in 0..k {
@@ -57,7 +58,7 @@ fn unpack_words(s: &[u8], w: usize, m: u64, k: usize, out: &mut [u64])
 
 // The first n values of width w, to the front of out.
 pub(crate) fn unpack_into(s: &[u8], w: usize, n: usize, out: &mut [u64])
-    requires { ⌜ (w ≤ 64) × (n ≤ 16777216) × (n ≤ length (now out)) ⌝ }
+    requires { ⌜ (w ≤ 64) × (n ≤ maxChunkElements) × (n ≤ length (now out)) ⌝ }
     ensures { λ _. ⌜ now (out .exit) ≡ unpacked w n (now (s .entry)) ++ drop n (now (out .entry)) ⌝ }
 {
     let m = mask(w);

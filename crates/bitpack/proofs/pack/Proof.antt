@@ -1,0 +1,31 @@
+-- The questions in their order; then the packed bytes, as many as their length, are stored.
+use mathlib.Core.Path.{refl}
+use borrow.Author.Needs.{needs}
+use borrow.Author.Tests.{le-leb, lt-leb}
+use Rattle.format.specs.Answers.{stored}
+use Rattle.format.specs.Standalone.{packAnswer, packOutput, packOutcome}
+use Rattle.format.proofs.numbers.Packing.{length-packed}
+use Rattle.bitpack.proofs.pack.Statement.{statement}
+use Rattle.bitpack.proofs.pack.Tie as tie
+
+returns : tie.Need-returns
+unfolding packAnswer packOutput packOutcome
+returns c = simp (lt-leb _ _ (c .if1 .taken)) (refl, refl)
+
+returns-2 : tie.Need-returns-2
+unfolding packAnswer packOutput packOutcome
+returns-2 c = simp (le-leb _ _ (c .before .if1 .left), lt-leb _ _ (c .if2 .taken)) (refl, refl)
+
+returns-3 : tie.Need-returns-3
+unfolding packAnswer packOutput packOutcome
+returns-3 c =
+    simp (le-leb _ _ (c .before .before .before .if1 .left), le-leb _ _ (c .before .before .if2 .left), ← c .before .bytes-for .ensures, lt-leb _ _ (c .if3 .taken)) (refl, refl)
+
+returns-4 : tie.Need-returns-4
+unfolding packAnswer packOutput packOutcome stored
+returns-4 c =
+    simp (le-leb _ _ (c .before .before .before .before .before .before .before .if1 .left), le-leb _ _ (c .before .before .before .before .before .before .if2 .left), length-packed, ← c .before .before .before .before .before .bytes-for .ensures, le-leb _ _ (c .before .before .before .before .if3 .left))
+    (refl, simp (← c .before .before .before .before .before .bytes-for .ensures) at (c .before .before .pack-into .ensures))
+
+pub pack-spec : {M : Type 1} → statement M
+pack-spec = tie.close (tie.spec returns returns-2 (λ c κs. search needs) returns-3 (λ c κs. search needs) (λ c. search needs) returns-4)
