@@ -31,12 +31,12 @@ pub fn packed_len(count: usize, width: u32) -> Answer
     ensures { λ r. ⌜ r ≡ packedLenAnswer count width ⌝ }
 {
     if count > MAX_CHUNK_ELEMENTS {
-        return Answer::Refused(COLUMN_ABOVE_LIMIT, 0);
+        Answer::Refused(COLUMN_ABOVE_LIMIT, 0)
+    } else if width > 64 {
+        Answer::Refused(WIDTH_ABOVE_64, 0)
+    } else {
+        Answer::Accepted(bytes_for(count, width as usize))
     }
-    if width > 64 {
-        return Answer::Refused(WIDTH_ABOVE_64, 0);
-    }
-    Answer::Accepted(bytes_for(count, width as usize))
 }
 
 // Packs `values` at `width` bits each to the front of `out`. Bits above the width are dropped.
@@ -71,7 +71,8 @@ pub fn unpack(bytes: &[u8], width: u32, count: usize, out: &mut [u64]) -> Answer
         return Answer::Refused(WIDTH_ABOVE_64, 0);
     }
     let w = width as usize;
-    if bytes.len() < bytes_for(count, w) {
+    let needed = bytes_for(count, w);
+    if bytes.len() < needed {
         return Answer::Refused(PACKED_CUT, bytes.len());
     }
     if out.len() < count {

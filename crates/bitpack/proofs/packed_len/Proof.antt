@@ -1,5 +1,5 @@
 -- The questions in their order, and then the length.
-use mathlib.Core.Path.{sym, ap}
+use mathlib.Core.Path.{ap}
 use borrow.Author.Needs.{needs}
 use borrow.Author.Tests.{le-leb, lt-leb}
 use Rattle.format.specs.Standalone.{packedLenAnswer}
@@ -20,4 +20,4 @@ unfolding packedLenAnswer
 returns-3 c = simp (le-leb _ _ (c .before .before .if1 .left), le-leb _ _ (c .before .if2 .left)) (ap Accepted (c .bytes-for .ensures))
 
 pub packed-len-spec : {M : Type 1} → statement M
-packed-len-spec = tie.close (tie.spec returns returns-2 (λ c κs. search needs) returns-3)
+packed-len-spec = tie.close (tie.spec (λ c κs. search needs) returns returns-2 returns-3)
