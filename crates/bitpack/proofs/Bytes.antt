@@ -1,13 +1,13 @@
 -- The sum of eight loads is the word at that place of the number that the bytes make: both have the same eight digits in base 256. Bytes past the end are the
 -- zeros above the number.
 use mathlib.Core.Path.{_≡_, refl, sym, ap, ap₂, _∙_}
-use Prim.Native.Nat.{ℕ, zero, suc, _+_, _/_, _%_, _^_, _<_}
+use Prim.Native.Nat.{ℕ, zero, suc, _+_, _/_, _%_, _^_}
 use native.Mathlib.Nat.{add-zero, add-suc, zero-lt-suc}
 use native.Mathlib.Omega.{arith}
 use mathlib.Core.List.{List, [], _∷_}
 use lib.ListN.{getD}
 use Rattle.format.specs.Digits.{ofDigits, digits}
-use Rattle.format.proofs.numbers.All.{Below, all-by}
+use Rattle.format.proofs.numbers.All.{Below}
 use Rattle.format.proofs.numbers.Digits.{ofDigits-digits}
 use Rattle.bitpack.specs.Loads.{sum8}
 use Rattle.bitpack.proofs.Digits.{div-suc, ofDigits-at}

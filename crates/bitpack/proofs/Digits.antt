@@ -1,9 +1,9 @@
 -- Digits in any base, cut at a place: the digits of a number below and above it, and the number of a list's digits from it on. Shown by induction on the place;
 -- one digit is the quotient and the remainder by the base.
-use mathlib.Core.Path.{_≡_, refl, sym, ap, ap₂, _∙_}
+use mathlib.Core.Path.{_≡_, sym, ap, _∙_}
 use Prim.Native.Nat.{ℕ, zero, suc, _+_, _*_, _/_, _%_, _^_, _<_}
 use native.Mathlib.Nat.{zero-add, add-zero, suc-add, add-comm, zero-mul, suc-mul, mul-comm, pow-zero, pow-suc, pow-succ', div-one, zero-div, zero-mod, div-div-eq-div-mul, mod-add-div, mod-eq-of-lt, add-mul-mod-self-left}
-use mathlib.Core.List.{List, [], _∷_, _++_}
+use mathlib.Core.List.{List, _∷_, _++_}
 use lib.ListN.{getD, drop}
 use lib.Seq.{getD-drop}
 use lib.Pow.{pow-add}
@@ -34,7 +34,8 @@ unfolding digits
 digits-add b zero k x = rw (zero-add k, pow-zero b, div-one x)
 digits-add b (suc j) k x =
     ap (λ (n : ℕ). digits b n x) (suc-add j k)
-    ∙ ap (λ (l : List ℕ). x % b ∷ l) (digits-add b j k (x / b) ∙ ap (λ (y : ℕ). digits b j (x / b) ++ digits b k y) (div-div-eq-div-mul x b (b ^ j) ∙ ap (λ (y : ℕ). x / y) (sym (pow-succ' b j))))
+    ∙ ap (λ (l : List ℕ). x % b ∷ l)
+    (digits-add b j k (x / b) ∙ ap (λ (y : ℕ). digits b j (x / b) ++ digits b k y) (div-div-eq-div-mul x b (b ^ j) ∙ ap (λ (y : ℕ). x / y) (sym (pow-succ' b j))))
 
 -- the k lowest are those of the remainder
 pub digits-mod-pow : (b k x : ℕ) → 0 < b → digits b k (x % b ^ k) ≡ digits b k x
@@ -49,10 +50,11 @@ module _ {b : ℕ} where
   ofDigits-drop {ds} zero h = rw (pow-zero b, div-one (ofDigits b ds))
   ofDigits-drop (suc p) all-none = sym (zero-div (b ^ suc p))
   ofDigits-drop (suc p) (all-more {x = d} {xs = ds} h r) =
+      let X = ofDigits b ds in
       ofDigits-drop p r
-      ∙ ap (λ (y : ℕ). y / b ^ p) (sym (digits-div (ofDigits b ds) h) ∙ ap (λ (y : ℕ). y / b) (add-comm (ofDigits b ds * b) d ∙ ap (λ (y : ℕ). d + y) (mul-comm (ofDigits b ds) b)))
-      ∙ div-div-eq-div-mul (d + b * ofDigits b ds) b (b ^ p)
-      ∙ ap (λ (y : ℕ). (d + b * ofDigits b ds) / y) (sym (pow-succ' b p))
+      ∙ ap (λ (y : ℕ). y / b ^ p) (sym (digits-div X h) ∙ ap (λ (y : ℕ). y / b) (add-comm (X * b) d ∙ ap (λ (y : ℕ). d + y) (mul-comm X b)))
+      ∙ div-div-eq-div-mul (d + b * X) b (b ^ p)
+      ∙ ap (λ (y : ℕ). (d + b * X) / y) (sym (pow-succ' b p))
 
   lowest : {ds : List ℕ} → Below b ds → ofDigits b ds % b ≡ getD ds 0 0
   unfolding ofDigits

@@ -1,7 +1,7 @@
 -- What the loop that packs keeps: of the number of the values so far, the lowest p bytes are stored and acc is what is above them, of fewer than 64 bits. A value
 -- more is added above these bits; once they are 64, the word is stored and acc is what is above it.
-use mathlib.Core.Path.{_≡_, refl, sym, ap, ap₂, _∙_, subst, subst⁻¹}
-use Prim.Native.Nat.{ℕ, zero, suc, _+_, _-_, _*_, _/_, _%_, _^_, _≤_, _<_, zero-le}
+use mathlib.Core.Path.{_≡_, refl, sym, ap, ap₂, _∙_, subst⁻¹}
+use Prim.Native.Nat.{ℕ, _+_, _-_, _*_, _/_, _%_, _^_, _≤_, _<_, zero-le}
 use native.Mathlib.Nat.{add-zero, add-comm, zero-mul, suc-mul, mul-zero, mul-assoc, mul-comm, mod-lt, mod-eq-of-lt, lt-of-lt-of-le, div-div-eq-div-mul, add-mul-div-left, zero-lt-suc, one-le-pow, mul-le-mul-right}
 use native.Mathlib.Numerals.{add-one, add-one-le}
 use native.Mathlib.Omega.{arith}
@@ -74,18 +74,18 @@ start w vs out₀ = record { more = zero-le; place = sym (zero-mul w); few = zer
 module _ {w : ℕ} {vs out₀ out : List ℕ} {acc bits p i : ℕ} (st : State w vs out₀ out acc bits p i) where
   acc-lt : acc < 2 ^ bits
   acc-lt =
-      let X = number w (take i vs) in
       let e : length (take i vs) * w ≡ bits + p * 8 = ap (λ (k : ℕ). k * w) (length-take-le i vs (st .more)) ∙ sym (st .place) ∙ add-comm (p * 8) bits in
-      subst⁻¹ (λ (k : ℕ). k < 2 ^ bits) (st .held ∙ ap (λ (k : ℕ). X / k) (pow-256 p)) (shr-lt bits (p * 8) (subst (λ (k : ℕ). X < 2 ^ k) e (number-lt w (take i vs))))
+      rw (st .held, pow-256 p) (shr-lt bits (p * 8) (rw e at (number-lt w (take i vs))))
 
   module _ {v : ℕ} (ev : v ≡ getD vs i 0 % 2 ^ w) (h : i < length vs) where
     -- the next number: v above the bits so far
     next : number w (take (i + 1) vs) ≡ number w (take i vs) + 256 ^ p * (v * 2 ^ bits)
     next =
+        let X = number w (take i vs) in
+        let e : 2 ^ (i * w) ≡ 256 ^ p * 2 ^ bits = rw (← st .place, pow-256 p) (pow-add 2 (p * 8) bits) in
         number-suc w i vs h
-        ∙ ap₂ (λ (x y : ℕ). number w (take i vs) + 2 ^ x * y) (sym (st .place)) (sym ev)
-        ∙ ap (λ (x : ℕ). number w (take i vs) + x)
-        (ap (λ (x : ℕ). x * v) (pow-add 2 (p * 8) bits ∙ ap (λ (x : ℕ). x * 2 ^ bits) (sym (pow-256 p))) ∙ mul-assoc (256 ^ p) (2 ^ bits) v ∙ ap (λ (x : ℕ). 256 ^ p * x) (mul-comm (2 ^ bits) v))
+        ∙ ap₂ (λ (x y : ℕ). X + x * y) e (sym ev)
+        ∙ ap (λ (x : ℕ). X + x) (mul-assoc (256 ^ p) (2 ^ bits) v ∙ ap (λ (x : ℕ). 256 ^ p * x) (mul-comm (2 ^ bits) v))
 
     -- above the bytes that are stored,
     rest : number w (take (i + 1) vs) / 256 ^ p ≡ v * 2 ^ bits + acc
@@ -107,7 +107,7 @@ module _ {w : ℕ} {vs out₀ out : List ℕ} {acc bits p i : ℕ} (st : State w
     pub keep : bits + w < 64 → State w vs out₀ out (bitOr acc (v * 2 ^ bits % 2 ^ 64)) (bits + w) p (i + 1)
     keep hw =
         let fits : v * 2 ^ bits + acc < 2 ^ (w + bits)
-        = subst⁻¹ (λ (k : ℕ). v * 2 ^ bits + acc < k) (pow-add 2 w bits) (digits-lt (subst⁻¹ (λ (k : ℕ). k < 2 ^ w) ev (mod-lt (getD vs i 0) (pow-pos w))) acc-lt) in
+        = rw (pow-add 2 w bits) (digits-lt (subst⁻¹ (λ (k : ℕ). k < 2 ^ w) ev (mod-lt (getD vs i 0) (pow-pos w))) acc-lt) in
         let short : w + bits ≤ 64 = omega arith in
         record {
           more = omega arith;
@@ -135,7 +135,11 @@ module _ {w : ℕ} {vs out₀ out : List ℕ} {acc bits p i : ℕ} (st : State w
             more = omega arith;
             place = omega (arith, place′);
             few = omega (arith, st .few);
-            held = over acc v bits acc-lt (st .few) ∙ ap (λ (k : ℕ). k / 256 ^ 8) (sym rest) ∙ div-div-eq-div-mul X (256 ^ p) (256 ^ 8) ∙ ap (λ (k : ℕ). X / k) (sym (pow-add 256 p 8));
+            held =
+                over acc v bits acc-lt (st .few)
+                ∙ ap (λ (k : ℕ). k / 256 ^ 8) (sym rest)
+                ∙ div-div-eq-div-mul X (256 ^ p) (256 ^ 8)
+                ∙ ap (λ (k : ℕ). X / k) (sym (pow-add 256 p 8));
             done =
                 eo ∙ ap₂ (λ (a b : List ℕ). sets a p b) front word
                 ∙ store-run (digits 256 p X) out₀ p (length-digits 256 p X) (digits 256 8 (X / 256 ^ p)) 8 (length-digits 256 8 (X / 256 ^ p)) word-room
@@ -158,7 +162,7 @@ module _ {w : ℕ} {vs out₀ out : List ℕ} {acc bits p i : ℕ} (st : State w
         let eX : number w (take i vs) ≡ Y = ap (λ (k : ℕ). number w (take k vs)) e ∙ ap (number w) (take-length vs) in
         let fits : p + t ≤ length out₀ = omega (arith, whole-len) in
         eo
-        ∙ ap₂ (λ (a b : List ℕ). sets a p b) (st .done ∙ ap (λ (k : ℕ). digits 256 p k ++ drop p out₀) eX) (ap (digits 256 t) (st .held ∙ ap (λ (k : ℕ). k / 256 ^ p) eX))
+        ∙ ap₂ (λ (a b : List ℕ). sets a p b) (rw eX at (st .done)) (ap (digits 256 t) (rw eX at (st .held)))
         ∙ store-run (digits 256 p Y) out₀ p (length-digits 256 p Y) (digits 256 t (Y / 256 ^ p)) t (length-digits 256 t (Y / 256 ^ p)) fits
         ∙ ap (λ (l : List ℕ). l ++ drop (p + t) out₀) (sym (digits-add 256 p t Y))
         ∙ ap (λ (k : ℕ). digits 256 k Y ++ drop k out₀) (sym whole-len)

@@ -1,17 +1,18 @@
 -- The laws of packing, for any width: packed values are found again in the middle of any bytes; eight values fill whole bytes, so what is packed or read after a
 -- multiple of eight values is packed or read by itself. Packed bytes and values are the digits of one number, `number w vs`, in base 256 and in base 2 ^ w.
-use mathlib.Core.Path.{_≡_, refl, sym, ap, ap₂, _∙_}
-use Prim.Native.Nat.{ℕ, zero, suc, _+_, _-_, _*_, _/_, _%_, _^_, _≤_, _<_}
-use native.Mathlib.Nat.{mod-eq-of-lt, mul-assoc, mul-comm, mul-zero, add-zero, add-mul, zero-add, div-eq-of-lt, add-mul-div-left, one-le-pow, zero-lt-suc, zero-mul}
+use mathlib.Core.Path.{_≡_, sym, ap, ap₂, _∙_}
+use Prim.Native.Nat.{ℕ, _+_, _*_, _/_, _%_, _^_, _<_}
+use native.Mathlib.Nat.{mul-assoc, mul-comm, add-mul, zero-add, div-eq-of-lt, add-mul-div-left, one-le-pow, zero-lt-suc}
 use native.Mathlib.Omega.{arith}
-use mathlib.Core.List.{List, [], _∷_, _++_, map, map-append}
+use mathlib.Core.List.{List, _++_, map, map-append}
 use lib.ListN.{length, drop, length-append, length-map}
 use lib.Seq.{drop-append-seam}
 use lib.Pow.{pow-pos}
 use Rattle.format.specs.Digits.{ofDigits, digits}
 use Rattle.format.specs.Packing.{packedLen, packed, unpacked}
-use Rattle.format.proofs.numbers.All.{Below, all-imp, map-id}
+use Rattle.format.proofs.numbers.All.{Below}
 use Rattle.format.proofs.numbers.Digits.{ofDigits-append, ofDigits-lt, digits-ignore, below-map}
+use Rattle.format.proofs.numbers.Extremes.{mod-below}
 use Rattle.format.proofs.numbers.Packing.{unpacked-packed}
 use Rattle.bitpack.proofs.Digits.{pow-pow, pow-256, digits-add, ofDigits-drop}
 
@@ -23,7 +24,7 @@ unpacked-middle w pre vs rest = ap (unpacked w (length vs)) (drop-append-seam pr
 
 -- values that fit the width come back as they were
 pub unpacked-fitting : (w : ℕ) {vs : List ℕ} (rest : List ℕ) → Below (2 ^ w) vs → unpacked w (length vs) (packed w vs ++ rest) ≡ vs
-unpacked-fitting w {vs} rest h = unpacked-packed w vs rest ∙ map-id (all-imp (λ v k. mod-eq-of-lt k) h)
+unpacked-fitting w {vs} rest h = unpacked-packed w vs rest ∙ mod-below h
 
 -- ---- the number of packed values
 
@@ -33,8 +34,7 @@ number w vs = ofDigits (2 ^ w) (map (λ v. v % 2 ^ w) vs)
 module _ (w : ℕ) where
   pub number-lt : (vs : List ℕ) → number w vs < 2 ^ (length vs * w)
   unfolding number
-  number-lt vs =
-      rw (← pow-pow 2 w (length vs), ← length-map vs (λ v. v % 2 ^ w)) (ofDigits-lt (below-map (2 ^ w) (pow-pos w) vs))
+  number-lt vs = rw (← pow-pow 2 w (length vs), ← length-map vs (λ v. v % 2 ^ w)) (ofDigits-lt (below-map (2 ^ w) (pow-pos w) vs))
 
   pub number-append : (xs ys : List ℕ) → number w (xs ++ ys) ≡ number w xs + 2 ^ (length xs * w) * number w ys
   unfolding number
@@ -63,7 +63,8 @@ module _ (w : ℕ) where
         let p : 2 ^ (length xs * w) ≡ 256 ^ (k * w) = ap (λ (i : ℕ). 2 ^ (i * w)) e ∙ sym power-8 in
         let small : X < 256 ^ (k * w) = rw p at (number-lt xs) in
         let el : packedLen (length xs) w ≡ k * w = omega (arith, ap (λ (i : ℕ). i * w) e, bits-8) in
-        let en : packedLen (length (xs ++ ys)) w ≡ k * w + n = omega (arith, ap (λ (i : ℕ). i * w) (length-append xs ys), add-mul (length xs) (length ys) w, ap (λ (i : ℕ). i * w) e, bits-8) in
+        let en : packedLen (length (xs ++ ys)) w ≡ k * w + n
+        = omega (arith, ap (λ (i : ℕ). i * w) (length-append xs ys) ∙ add-mul (length xs) (length ys) w, ap (λ (i : ℕ). i * w) e, bits-8) in
         let over : (X + 256 ^ (k * w) * Y) / 256 ^ (k * w) ≡ Y
         = add-mul-div-left X Y (one-le-pow (k * w) 256 (zero-lt-suc 255)) ∙ ap (λ (i : ℕ). i + Y) (div-eq-of-lt small) ∙ zero-add Y in
         ap₂ (digits 256) en (number-append xs ys ∙ ap (λ (i : ℕ). X + i * Y) p)

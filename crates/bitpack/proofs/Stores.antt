@@ -1,7 +1,7 @@
 -- Lists of stores: a front that a loop fills element by element, a run of bytes from a place on, and what a later part of the buffer still holds. A store is a
 -- `set`; each law splits the list at the place.
 use mathlib.Core.Path.{_≡_, sym, ap, ap₂, _∙_}
-use Prim.Native.Nat.{ℕ, zero, suc, _+_, _-_, _/_, _%_, _^_, _≤_, _<_}
+use Prim.Native.Nat.{ℕ, suc, _+_, _-_, _/_, _%_, _^_, _≤_, _<_}
 use native.Mathlib.Nat.{add-zero, add-suc, suc-add}
 use native.Mathlib.Numerals.{add-one, towards-suc}
 use native.Mathlib.Omega.{arith}

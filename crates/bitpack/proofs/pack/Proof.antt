@@ -19,13 +19,17 @@ returns-2 c = simp (le-leb _ _ (c .before .if1 .left), lt-leb _ _ (c .if2 .taken
 returns-3 : tie.Need-returns-3
 unfolding packAnswer packOutput packOutcome
 returns-3 c =
-    simp (le-leb _ _ (c .before .before .before .if1 .left), le-leb _ _ (c .before .before .if2 .left), ← c .before .bytes-for .ensures, lt-leb _ _ (c .if3 .taken)) (refl, refl)
+    let before = c .before .before in
+    let needed = c .before .bytes-for .ensures in
+    simp (le-leb _ _ (before .before .if1 .left), le-leb _ _ (before .if2 .left), ← needed, lt-leb _ _ (c .if3 .taken)) (refl, refl)
 
 returns-4 : tie.Need-returns-4
 unfolding packAnswer packOutput packOutcome stored
 returns-4 c =
-    simp (le-leb _ _ (c .before .before .before .before .before .before .before .if1 .left), le-leb _ _ (c .before .before .before .before .before .before .if2 .left), length-packed, ← c .before .before .before .before .before .bytes-for .ensures, le-leb _ _ (c .before .before .before .before .if3 .left))
-    (refl, simp (← c .before .before .before .before .before .bytes-for .ensures) at (c .before .before .pack-into .ensures))
+    let before = c .before .before .before .before .before .before in
+    let needed = c .before .before .before .before .before .bytes-for .ensures in
+    simp (le-leb _ _ (before .before .if1 .left), le-leb _ _ (before .if2 .left), length-packed, ← needed, le-leb _ _ (c .before .before .before .before .if3 .left))
+    (refl, simp (← needed) at (c .before .before .pack-into .ensures))
 
 pub pack-spec : {M : Type 1} → statement M
 pack-spec = tie.close (tie.spec returns returns-2 (λ c κs. search needs) returns-3 (λ c κs. search needs) (λ c. search needs) returns-4)

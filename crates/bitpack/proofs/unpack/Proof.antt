@@ -21,30 +21,32 @@ returns-2 c = simp (le-leb _ _ (c .before .if1 .left), lt-leb _ _ (c .if2 .taken
 returns-3 : tie.Need-returns-3
 unfolding unpackAnswer unpackBuffer unpackOutcome packedEnd
 returns-3 c =
-    simp (sub-zero, le-leb _ _ (c .before .before .before .if1 .left), le-leb _ _ (c .before .before .if2 .left), ← c .before .bytes-for .ensures, lt-leb _ _ (c .if3 .taken)) (refl, refl)
+    let before = c .before .before in
+    let needed = c .before .bytes-for .ensures in
+    simp (sub-zero, le-leb _ _ (before .before .if1 .left), le-leb _ _ (before .if2 .left), ← needed, lt-leb _ _ (c .if3 .taken)) (refl, refl)
 
 returns-4 : tie.Need-returns-4
 unfolding unpackAnswer unpackBuffer unpackOutcome packedEnd
 returns-4 c =
-    simp (
-      sub-zero,
-      le-leb _ _ (c .before .before .before .before .if1 .left),
-      le-leb _ _ (c .before .before .before .if2 .left),
-      ← c .before .before .bytes-for .ensures,
-      le-leb _ _ (c .before .if3 .left),
-      lt-leb _ _ (c .if4 .taken),
-    ) (refl, refl)
+    let before = c .before .before .before in
+    let needed = c .before .before .bytes-for .ensures in
+    simp
+    (sub-zero, le-leb _ _ (before .before .if1 .left), le-leb _ _ (before .if2 .left), ← needed, le-leb _ _ (c .before .if3 .left), lt-leb _ _ (c .if4 .taken))
+    (refl, refl)
 
 returns-5 : tie.Need-returns-5
 unfolding unpackAnswer unpackBuffer unpackOutcome packedEnd stored
 returns-5 c =
+    let before = c .before .before .before .before .before .before .before in
+    let needed = c .before .before .before .before .before .before .bytes-for .ensures in
+    let there = c .before .before .before .before in
     simp (
       sub-zero,
-      le-leb _ _ (c .before .before .before .before .before .before .before .before .if1 .left),
-      le-leb _ _ (c .before .before .before .before .before .before .before .if2 .left),
-      ← c .before .before .before .before .before .before .bytes-for .ensures,
-      le-leb _ _ (c .before .before .before .before .before .if3 .left),
-      le-leb _ _ (c .before .before .before .before .if4 .left),
+      le-leb _ _ (before .before .if1 .left),
+      le-leb _ _ (before .if2 .left),
+      ← needed,
+      le-leb _ _ (there .before .if3 .left),
+      le-leb _ _ (there .if4 .left),
       length-unpacked,
     )
     (refl, c .before .before .unpack-into .ensures)

@@ -15,7 +15,8 @@ returns c =
     let start = c .before .before .before .before .before .before .place .ensures in
     let front = c .before .before .before .before .before .place2 .ensures in
     let told = rw (from-rest (a .at) (now (a .chunk)) start, from-rest (a .from) (now (a .out)) front) at (c .before .before .unpack .ensures) in
-    (told .0, from-back (a .from) (now (a .out)) front (c .before .before .unpack .last .1 .1 .1 .0) ∙ ap (λ (l : List ℕ). take (a .from) (now (a .out)) ++ l) (told .1))
+    let back = c .before .before .unpack .last .1 .1 .1 .0 in
+    (told .0, from-back (a .from) (now (a .out)) front back ∙ ap (λ (l : List ℕ). take (a .from) (now (a .out)) ++ l) (told .1))
 
 pub unpack-part-spec : {M : Type 1} → statement M
 unpack-part-spec =

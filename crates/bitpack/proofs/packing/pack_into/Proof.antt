@@ -17,41 +17,61 @@ Inv-loop vs w out₀ m acc₀ bits₀ p₀ i₀ out acc bits p i = State w vs ou
 abbrev μ-loop : tie.MeasureT-loop
 μ-loop vs w out₀ m acc₀ bits₀ p₀ i₀ out acc bits p i = length vs - i
 
+-- the call, from the loop's test
+abbrev entry : tie.At-loop Inv-loop μ-loop → tie.Start Inv-loop μ-loop
+entry c = c .before .before .before .before
+
 -- the value of a turn is cut to the width
 value : (c : tie.In-loop Inv-loop μ-loop)
-    → let a = c .before .before .before .before .before .args in
-    bitAnd (getD (now (a .vs)) (c .before .loop .i) 0) (c .before .before .mask .result) ≡ getD (now (a .vs)) (c .before .loop .i) 0 % 2 ^ (a .w)
-value c = let a = c .before .before .before .before .before .args in masked (getD (now (a .vs)) (c .before .loop .i) 0) (a .w) (c .before .before .mask .ensures)
+    → let v = getD (now (entry (c .before) .args .vs)) (c .before .loop .i) 0 in
+    bitAnd v (c .before .before .mask .result) ≡ v % 2 ^ (entry (c .before) .args .w)
+value c = let a = entry (c .before) .args in masked (getD (now (a .vs)) (c .before .loop .i) 0) (a .w) (c .before .before .mask .ensures)
 
 -- there is room for a word where it is full
-room : (c : tie.Else1 Inv-loop μ-loop) → c .before .before .before .loop .p + 8 ≤ length (now (c .before .before .before .before .before .before .before .args .out))
-room c = word-room (c .before .before .before .loop .inv) (value (c .before .before)) (c .before .before .loop-test .taken) (c .if1 .left) (c .before .before .before .before .before .before .before .pre .1)
+room : (c : tie.Else1 Inv-loop μ-loop) → c .before .before .before .loop .p + 8 ≤ length (now (entry (c .before .before .before) .args .out))
+room c =
+    let turn = c .before .before in
+    word-room (turn .before .loop .inv) (value turn) (turn .loop-test .taken) (c .if1 .left) (entry (turn .before) .pre .1)
 
 -- the loop ends at the last value
-ended : (c : tie.After-put-tail-arg Inv-loop μ-loop) → c .before .before .loop .i ≡ length (now (c .before .before .before .before .before .before .args .vs))
+ended : (c : tie.After-put-tail-arg Inv-loop μ-loop) → c .before .before .loop .i ≡ length (now (entry (c .before .before) .args .vs))
 ended c = omega arith
 
 loop-holds : tie.Need-loop-holds Inv-loop μ-loop
 loop-holds c = let a = c .before .before .before .args in start (a .w) (now (a .vs)) (now (a .out))
 
 loop-again : tie.Need-loop-again Inv-loop μ-loop
-loop-again c = keep (c .before .before .before .loop .inv) (value (c .before .before)) (c .before .before .loop-test .taken) (c .if1 .taken)
+loop-again c = let turn = c .before .before in keep (turn .before .loop .inv) (value turn) (turn .loop-test .taken) (c .if1 .taken)
+
+put-word-requires : tie.Need-put-word-requires Inv-loop μ-loop
+put-word-requires c κs = omega (arith, room (c .before), c .before .before .before .before .loop .inv .same)
+
+add-p : tie.Need-add-p Inv-loop μ-loop
+add-p c = let full = c .before .before .before .before in omega (arith, room full, entry (full .before .before .before) .good)
 
 loop-again-2 : tie.Need-loop-again-2 Inv-loop μ-loop
 loop-again-2 c =
     let full = c .before .before .before .before in
-    let pre = c .before .before .before .before .before .before .before .before .before .before .before .pre in
-    store (full .before .before .before .loop .inv) (value (full .before .before)) (full .before .before .loop-test .taken) (full .if1 .left) (pre .1) (pre .0) (c .before .before .put-word .ensures)
+    let turn = full .before .before in
+    let pre = entry (turn .before) .pre in
+    store (turn .before .loop .inv) (value turn) (turn .loop-test .taken) (full .if1 .left) (pre .1) (pre .0) (c .before .before .put-word .ensures)
+
+put-tail-requires : tie.Need-put-tail-requires Inv-loop μ-loop
+put-tail-requires c κs =
+    let st = c .before .before .loop .inv in
+    omega (arith, whole-len st (ended c), entry (c .before .before) .pre, st .same)
+
+same-length : tie.Need-same-length Inv-loop μ-loop
+same-length c = c .before .before .put-tail .kept .0 ∙ c .before .before .before .before .before .loop .inv .same
 
 returns : tie.Need-returns Inv-loop μ-loop
-returns c = finish (c .before .before .before .before .before .loop .inv) (ended (c .before .before .before)) (c .before .before .before .before .before .before .before .before .before .pre .1) (c .before .before .put-tail .ensures)
+returns c =
+    let at-end = c .before .before .before .before .before in
+    finish (at-end .loop .inv) (ended (c .before .before .before)) (entry at-end .pre .1) (c .before .before .put-tail .ensures)
 
 pub pack-into-spec : {M : Type 1} → statement M
 pack-into-spec =
     tie.close
     (tie.spec Inv-loop μ-loop (λ c κs. search needs) loop-holds (λ c. search needs) (λ c. search needs) (λ c. search needs) (λ c. search needs)
-    (λ c. search needs) (λ c. search needs) (λ c. search needs) loop-again
-    (λ c κs. omega (arith, room (c .before), c .before .before .before .before .loop .inv .same)) (λ c. search needs) (λ c. search needs) (λ c. omega (arith, room (c .before .before .before .before), c .before .before .before .before .before .before .before .before .before .before .before .good))
-    (λ c. search needs) (λ c. search needs) (λ c. search needs) loop-again-2 (λ c. search needs)
-    (λ c κs. omega (arith, whole-len (c .before .before .loop .inv) (ended c), c .before .before .before .before .before .before .pre, c .before .before .loop .inv .same))
-    (λ c. c .before .before .put-tail .kept .0 ∙ c .before .before .before .before .before .loop .inv .same) returns)
+    (λ c. search needs) (λ c. search needs) (λ c. search needs) loop-again put-word-requires (λ c. search needs) (λ c. search needs) add-p
+    (λ c. search needs) (λ c. search needs) (λ c. search needs) loop-again-2 (λ c. search needs) put-tail-requires same-length returns)

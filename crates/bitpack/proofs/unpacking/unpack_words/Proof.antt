@@ -1,7 +1,7 @@
 -- Each of the k values has its word inside, and all its bits in that word.
 use mathlib.Core.Path.{_≡_, _∙_, ap}
 use mathlib.Core.List.{_++_}
-use Prim.Native.Nat.{ℕ, _+_, _-_, _*_, _/_, _%_, _≤_, _<_, zero-le}
+use Prim.Native.Nat.{ℕ, _-_, _*_, _/_, _≤_, _<_, zero-le}
 use native.Mathlib.Omega.{arith}
 use lib.ListN.{length, drop}
 use denote.Ref.{now}
