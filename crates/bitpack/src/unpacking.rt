@@ -17,6 +17,10 @@ fn value_at(s: &[u8], w: usize, m: u64, bit: usize) -> u64
     requires { ⌜ (w ≤ 64) × (m ≡ 2 ^ w - 1) × (bit < 2 ^ 62) ⌝ }
     ensures { λ r. ⌜ r ≡ ofDigits 256 (now (s .entry)) / 2 ^ bit % 2 ^ w ⌝ }
 {
+    // A width of 0 has no bytes to load.
+    if w == 0 {
+        return 0;
+    }
     let p = bit / 8;
     let off = bit % 8;
     let lo = load(s, p) >> off;
