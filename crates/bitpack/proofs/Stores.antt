@@ -3,7 +3,7 @@
 use mathlib.Core.Path.{_≡_, sym, ap, ap₂, _∙_}
 use Prim.Native.Nat.{ℕ, suc, _+_, _-_, _/_, _%_, _^_, _≤_, _<_}
 use native.Mathlib.Nat.{add-zero, add-suc, suc-add}
-use native.Mathlib.Numerals.{add-one, towards-suc}
+use native.Mathlib.Numerals.{add-one}
 use native.Mathlib.Omega.{arith}
 use mathlib.Core.List.{List, [], _∷_, _++_}
 use lib.ListN.{length, getD, set, drop, length-append, length-drop}
@@ -63,12 +63,3 @@ tail-step x j p l {y} {v} {out} eo ey ev =
     ∙ ap (λ (k : ℕ). set (sets l p (digits 256 j x)) (p + k) (x / 256 ^ j % 256)) (sym (length-digits 256 j x))
     ∙ sym (sets-append (digits 256 j x) (x / 256 ^ j % 256 ∷ []) l p)
     ∙ ap (sets l p) (sym (digits-add 256 j 1 x))
-
--- eight stores are a run
-pub eight : (l : List ℕ) (p x : ℕ)
-    → set (set (set (set (set (set (set (set l p (x % 256)) (p + 1) (x / 256 % 256)) (p + 2) (x / 256 / 256 % 256)) (p + 3) (x / 256 / 256 / 256 % 256))
-    (p + 4) (x / 256 / 256 / 256 / 256 % 256)) (p + 5) (x / 256 / 256 / 256 / 256 / 256 % 256)) (p + 6) (x / 256 / 256 / 256 / 256 / 256 / 256 % 256))
-    (p + 7) (x / 256 / 256 / 256 / 256 / 256 / 256 / 256 % 256)
-    ≡ sets l p (digits 256 8 x)
-unfolding digits
-eight l p x = simp towards-suc

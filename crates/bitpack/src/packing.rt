@@ -5,8 +5,7 @@ ghost use Prim.Native.Nat.{_≤_};
 ghost use lib.ListN.{length, drop};
 ghost use Rattle.format.specs.Packing.{packedLen, packed};
 use crate::words::mask;
-use crate::words::put_tail;
-use crate::words::put_word;
+use crate::words::put_bytes;
 
 // acc holds the bits, fewer than 64, that are not stored yet; p bytes are stored.
 pub(crate) fn pack_into(vs: &[u64], w: usize, out: &mut [u8])
@@ -26,12 +25,12 @@ pub(crate) fn pack_into(vs: &[u64], w: usize, out: &mut [u8])
             acc = x;
             bits += w;
         } else {
-            put_word(out, p, x);
+            put_bytes(out, p, x, 8);
             // Never a shift by 64.
             acc = (v >> (63 - bits)) >> 1;
             p += 8;
             bits = bits + w - 64;
         }
     }
-    put_tail(out, p, acc, (bits + 7) / 8);
+    put_bytes(out, p, acc, (bits + 7) / 8);
 }

@@ -75,30 +75,8 @@ fn low(x: u64) -> u8
     (x % 256) as u8
 }
 
-// The eight bytes of x from p on. The compiler makes one store of them.
-pub(crate) fn put_word(out: &mut [u8], p: usize, x: u64)
-    requires { ⌜ p + 8 ≤ length (now out) ⌝ }
-    ensures { λ _. ⌜ now (out .exit) ≡ sets (now (out .entry)) p (digits 256 8 x) ⌝ }
-{
-    let x1 = x / 256;
-    let x2 = x1 / 256;
-    let x3 = x2 / 256;
-    let x4 = x3 / 256;
-    let x5 = x4 / 256;
-    let x6 = x5 / 256;
-    let x7 = x6 / 256;
-    out[p] = low(x);
-    out[p + 1] = low(x1);
-    out[p + 2] = low(x2);
-    out[p + 3] = low(x3);
-    out[p + 4] = low(x4);
-    out[p + 5] = low(x5);
-    out[p + 6] = low(x6);
-    out[p + 7] = low(x7);
-}
-
-// The t lowest bytes of x from p on.
-pub(crate) fn put_tail(out: &mut [u8], p: usize, x: u64, t: usize)
+// The t lowest bytes of x from p on. Where t is 8 the compiler makes one store of them.
+pub(crate) fn put_bytes(out: &mut [u8], p: usize, x: u64, t: usize)
     requires { ⌜ p + t ≤ length (now out) ⌝ }
     ensures { λ _. ⌜ now (out .exit) ≡ sets (now (out .entry)) p (digits 256 t x) ⌝ }
 {

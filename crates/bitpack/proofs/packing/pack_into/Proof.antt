@@ -34,7 +34,7 @@ room c =
     word-room (turn .before .loop .inv) (value turn) (turn .loop-test .taken) (c .if1 .left) (entry (turn .before) .pre .1)
 
 -- the loop ends at the last value
-ended : (c : tie.After-put-tail-arg Inv-loop μ-loop) → c .before .before .loop .i ≡ length (now (entry (c .before .before) .args .vs))
+ended : (c : tie.After-put-bytes-arg2 Inv-loop μ-loop) → c .before .before .loop .i ≡ length (now (entry (c .before .before) .args .vs))
 ended c = omega arith
 
 loop-holds : tie.Need-loop-holds Inv-loop μ-loop
@@ -43,8 +43,8 @@ loop-holds c = let a = c .before .before .before .args in start (a .w) (now (a .
 loop-again : tie.Need-loop-again Inv-loop μ-loop
 loop-again c = let turn = c .before .before in keep (turn .before .loop .inv) (value turn) (turn .loop-test .taken) (c .if1 .taken)
 
-put-word-requires : tie.Need-put-word-requires Inv-loop μ-loop
-put-word-requires c κs = omega (arith, room (c .before), c .before .before .before .before .loop .inv .same)
+put-bytes-requires : tie.Need-put-bytes-requires Inv-loop μ-loop
+put-bytes-requires c κs = omega (arith, room (c .before), c .before .before .before .before .loop .inv .same)
 
 add-p : tie.Need-add-p Inv-loop μ-loop
 add-p c = let full = c .before .before .before .before in omega (arith, room full, entry (full .before .before .before) .good)
@@ -54,24 +54,24 @@ loop-again-2 c =
     let full = c .before .before .before .before in
     let turn = full .before .before in
     let pre = entry (turn .before) .pre in
-    store (turn .before .loop .inv) (value turn) (turn .loop-test .taken) (full .if1 .left) (pre .1) (pre .0) (c .before .before .put-word .ensures)
+    store (turn .before .loop .inv) (value turn) (turn .loop-test .taken) (full .if1 .left) (pre .1) (pre .0) (c .before .before .put-bytes .ensures)
 
-put-tail-requires : tie.Need-put-tail-requires Inv-loop μ-loop
-put-tail-requires c κs =
+put-bytes-requires-2 : tie.Need-put-bytes-requires-2 Inv-loop μ-loop
+put-bytes-requires-2 c κs =
     let st = c .before .before .loop .inv in
     omega (arith, whole-len st (ended c), entry (c .before .before) .pre, st .same)
 
 same-length : tie.Need-same-length Inv-loop μ-loop
-same-length c = c .before .before .put-tail .kept .0 ∙ c .before .before .before .before .before .loop .inv .same
+same-length c = c .before .before .put-bytes2 .kept .0 ∙ c .before .before .before .before .before .loop .inv .same
 
 returns : tie.Need-returns Inv-loop μ-loop
 returns c =
     let at-end = c .before .before .before .before .before in
-    finish (at-end .loop .inv) (ended (c .before .before .before)) (entry at-end .pre .1) (c .before .before .put-tail .ensures)
+    finish (at-end .loop .inv) (ended (c .before .before .before)) (entry at-end .pre .1) (c .before .before .put-bytes2 .ensures)
 
 pub pack-into-spec : {M : Type 1} → statement M
 pack-into-spec =
     tie.close
     (tie.spec Inv-loop μ-loop (λ c κs. search needs) loop-holds (λ c. search needs) (λ c. search needs) (λ c. search needs) (λ c. search needs)
-    (λ c. search needs) (λ c. search needs) (λ c. search needs) loop-again put-word-requires (λ c. search needs) (λ c. search needs) add-p
-    (λ c. search needs) (λ c. search needs) (λ c. search needs) loop-again-2 (λ c. search needs) put-tail-requires same-length returns)
+    (λ c. search needs) (λ c. search needs) (λ c. search needs) loop-again put-bytes-requires (λ c. search needs) (λ c. search needs) add-p
+    (λ c. search needs) (λ c. search needs) (λ c. search needs) loop-again-2 (λ c. search needs) put-bytes-requires-2 same-length returns)

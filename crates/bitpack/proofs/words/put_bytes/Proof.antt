@@ -11,8 +11,8 @@ use borrow.Author.Needs.{needs}
 use Rattle.format.specs.Digits.{digits}
 use Rattle.bitpack.proofs.Digits.{div-suc}
 use Rattle.bitpack.proofs.Stores.{tail-step}
-use Rattle.bitpack.proofs.words.put_tail.Statement.{statement}
-use Rattle.bitpack.proofs.words.put_tail.Tie as tie
+use Rattle.bitpack.proofs.words.put_bytes.Statement.{statement}
+use Rattle.bitpack.proofs.words.put_bytes.Tie as tie
 
 abbrev Inv-loop : tie.InvT-loop
 Inv-loop out₀ p x t y₀ j₀ out y j = (j ≤ t) × (length out ≡ length out₀) × (y ≡ x / 256 ^ j) × (out ≡ sets out₀ p (digits 256 j x))
@@ -40,8 +40,8 @@ returns c =
     let e : c .before .loop .j ≡ a .t = omega arith in
     c .before .loop .inv .3 ∙ ap (λ (k : ℕ). sets (now (a .out)) (a .p) (digits 256 k (a .x))) e
 
-pub put-tail-spec : {M : Type 1} → statement M
-put-tail-spec =
+pub put-bytes-spec : {M : Type 1} → statement M
+put-bytes-spec =
     tie.close
     (tie.spec Inv-loop μ-loop loop-holds (λ c κs. search needs) (λ c. omega arith) (λ c. omega arith) (λ c. omega arith) (λ c. omega arith) loop-again
     (λ c. c .before .loop .inv .1) returns)
