@@ -3,7 +3,7 @@
 use mathlib.Core.Path.{_≡_, sym, ap, _∙_}
 use Prim.Native.Nat.{ℕ, zero, suc, _+_, _*_, _/_, _%_, _^_, _<_}
 use native.Mathlib.Nat.{zero-add, add-zero, suc-add, add-comm, zero-mul, suc-mul, mul-comm, pow-zero, pow-suc, pow-succ', div-one, zero-div, zero-mod, div-div-eq-div-mul, mod-add-div, mod-eq-of-lt, add-mul-mod-self-left}
-use mathlib.Core.List.{List, _∷_, _++_}
+use mathlib.Core.List.{List, _++_}
 use lib.ListN.{getD, drop}
 use lib.Seq.{getD-drop}
 use lib.Pow.{pow-add}
@@ -16,7 +16,7 @@ use Rattle.format.proofs.numbers.Digits.{digits-ignore}
 
 pub pow-pow : (b i j : ℕ) → (b ^ i) ^ j ≡ b ^ (j * i)
 pow-pow b i zero = simp (pow-zero, zero-mul)
-pow-pow b i (suc j) = pow-suc (b ^ i) j ∙ ap (λ (y : ℕ). y * b ^ i) (pow-pow b i j) ∙ sym (pow-add b (j * i) i) ∙ ap (λ (y : ℕ). b ^ y) (sym (suc-mul j i))
+pow-pow b i (suc j) = rw (pow-suc (b ^ i) j, pow-pow b i j, suc-mul j i) (sym (pow-add b (j * i) i))
 
 -- n bytes are 8 * n bits
 pub pow-256 : (n : ℕ) → 256 ^ n ≡ 2 ^ (n * 8)
@@ -24,7 +24,7 @@ pow-256 n = pow-pow 2 8 n
 
 -- one place further up
 pub div-suc : (b i x : ℕ) → x / b ^ i / b ≡ x / b ^ suc i
-div-suc b i x = div-div-eq-div-mul x (b ^ i) b ∙ ap (λ (y : ℕ). x / y) (sym (pow-suc b i))
+div-suc b i x = rw (pow-suc b i) (div-div-eq-div-mul x (b ^ i) b)
 
 -- ---- the digits of a number
 
@@ -32,10 +32,7 @@ div-suc b i x = div-div-eq-div-mul x (b ^ i) b ∙ ap (λ (y : ℕ). x / y) (sym
 pub digits-add : (b j k x : ℕ) → digits b (j + k) x ≡ digits b j x ++ digits b k (x / b ^ j)
 unfolding digits
 digits-add b zero k x = rw (zero-add k, pow-zero b, div-one x)
-digits-add b (suc j) k x =
-    ap (λ (n : ℕ). digits b n x) (suc-add j k)
-    ∙ ap (λ (l : List ℕ). x % b ∷ l)
-    (digits-add b j k (x / b) ∙ ap (λ (y : ℕ). digits b j (x / b) ++ digits b k y) (div-div-eq-div-mul x b (b ^ j) ∙ ap (λ (y : ℕ). x / y) (sym (pow-succ' b j))))
+digits-add b (suc j) k x = rw (suc-add j k, digits-add b j k (x / b), div-div-eq-div-mul x b (b ^ j), pow-succ' b j)
 
 -- the k lowest are those of the remainder
 pub digits-mod-pow : (b k x : ℕ) → 0 < b → digits b k (x % b ^ k) ≡ digits b k x
@@ -63,5 +60,4 @@ module _ {b : ℕ} where
 
   -- the digit at place p, 0 past the last
   pub ofDigits-at : {ds : List ℕ} (p : ℕ) → Below b ds → ofDigits b ds / b ^ p % b ≡ getD ds p 0
-  ofDigits-at {ds} p h =
-      ap (λ (y : ℕ). y % b) (sym (ofDigits-drop p h)) ∙ lowest (all-drop p h) ∙ getD-drop p ds 0 0 ∙ ap (λ (i : ℕ). getD ds i 0) (add-zero p)
+  ofDigits-at {ds} p h = rw (← ofDigits-drop p h, lowest (all-drop p h), getD-drop p ds 0 0, add-zero p)

@@ -12,27 +12,21 @@ use Rattle.bitpack.proofs.Digits.{pow-256}
 
 -- a single bit set
 pub one-shl : (w : ℕ) → w < 64 → 1 * 2 ^ w % 2 ^ 64 ≡ 2 ^ w
-one-shl w h = ap (λ (x : ℕ). x % 2 ^ 64) (one-mul (2 ^ w)) ∙ mod-eq-of-lt (pow-lt h)
+one-shl w h = rw (one-mul (2 ^ w)) (mod-eq-of-lt (pow-lt h))
 
 pub masked : (x w : ℕ) {m : ℕ} → m ≡ 2 ^ w - 1 → bitAnd x m ≡ x % 2 ^ w
-masked x w e = ap (λ (k : ℕ). bitAnd x k) e ∙ and-mask x w
+masked x w e = rw e (and-mask x w)
 
 -- a shift left that loses the high bits: the j low bits of h are k places up
 pub shl-cut : (h j k : ℕ) → h * 2 ^ k % 2 ^ (j + k) ≡ h % 2 ^ j * 2 ^ k
-shl-cut h j k =
-    mod-pow-add (h * 2 ^ k) j k
-    ∙ ap₂ (λ (x y : ℕ). x % 2 ^ j * 2 ^ k + y) (shl-shr h k) (mul-mod-left h (2 ^ k))
-    ∙ add-zero (h % 2 ^ j * 2 ^ k)
+shl-cut h j k = rw (mod-pow-add (h * 2 ^ k) j k, shl-shr h k, mul-mod-left h (2 ^ k)) (add-zero (h % 2 ^ j * 2 ^ k))
 
 -- ---- w bits from a bit on
 
 module _ (N bit w : ℕ) where
   -- 8 * p + off is the bit
   at-bit : N / 256 ^ (bit / 8) / 2 ^ (bit % 8) ≡ N / 2 ^ bit
-  at-bit =
-      ap (λ (x : ℕ). N / x / 2 ^ (bit % 8)) (pow-256 (bit / 8))
-      ∙ shr-shr N (bit / 8 * 8) (bit % 8)
-      ∙ ap (λ (x : ℕ). N / 2 ^ x) (div-add-mod' bit 8)
+  at-bit = rw (pow-256 (bit / 8), shr-shr N (bit / 8 * 8) (bit % 8), div-add-mod' bit 8)
 
   -- the word, shifted: 64 - off bits from the bit on
   shifted : N / 256 ^ (bit / 8) % 2 ^ 64 / 2 ^ (bit % 8) ≡ N / 2 ^ bit % 2 ^ (64 - bit % 8)
@@ -55,7 +49,7 @@ module _ (N bit w : ℕ) where
     far : N / 256 ^ (bit / 8 + 8) ≡ N / 2 ^ bit / 2 ^ (64 - bit % 8)
     far =
         let ends : (bit / 8 + 8) * 8 ≡ bit + (64 - bit % 8) = omega arith in
-        ap (λ (y : ℕ). N / y) (pow-256 (bit / 8 + 8)) ∙ ap (λ (y : ℕ). N / 2 ^ y) ends ∙ sym (shr-shr N bit (64 - bit % 8))
+        rw (pow-256 (bit / 8 + 8), ends) (sym (shr-shr N bit (64 - bit % 8)))
 
     -- it ends in the byte after it, h
     pub nine-bytes : {h : ℕ} → h ≡ N / 256 ^ (bit / 8 + 8) % 256 → w ≤ 64

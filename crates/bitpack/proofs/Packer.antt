@@ -13,10 +13,10 @@ use lib.Pow.{pow-add, pow-pos, pow-mono, mod-pow-add, shr-shr, shr-lt, high, low
 use lib.Bits.{bitOr, or-shifted-r}
 use Rattle.format.specs.Digits.{ofDigits, digits}
 use Rattle.format.specs.Packing.{packedLen, packed}
-use Rattle.format.proofs.numbers.Digits.{length-digits, digits-ignore}
-use Rattle.bitpack.proofs.Digits.{pow-256, digits-add, digits-mod-pow}
+use Rattle.format.proofs.numbers.Digits.{digits-ignore}
+use Rattle.bitpack.proofs.Digits.{pow-256, digits-mod-pow}
 use Rattle.bitpack.proofs.Fields.{shl-cut}
-use Rattle.bitpack.proofs.Stores.{store-run}
+use Rattle.bitpack.proofs.Stores.{store-digits}
 use Rattle.bitpack.proofs.PackingLaws.{number, number-lt, number-append}
 
 -- ---- the accumulator: A has fewer than `bits` bits, v is to be added above them
@@ -51,11 +51,7 @@ number-suc : (w i : ℕ) (vs : List ℕ) → i < length vs → number w (take (i
 unfolding number ofDigits
 number-suc w i vs h =
     let l : i ≤ length vs = omega arith in
-    ap (λ (k : ℕ). number w (take k vs)) (add-one i)
-    ∙ ap (number w) (take-suc vs i 0 h)
-    ∙ number-append w (take i vs) (getD vs i 0 ∷ [])
-    ∙ ap₂ (λ (k x : ℕ). number w (take i vs) + 2 ^ (k * w) * (getD vs i 0 % 2 ^ w + x)) (length-take-le i vs l) (mul-zero (2 ^ w))
-    ∙ ap (λ (x : ℕ). number w (take i vs) + 2 ^ (i * w) * x) (add-zero (getD vs i 0 % 2 ^ w))
+    rw (add-one i, take-suc vs i 0 h, number-append w (take i vs) (getD vs i 0 ∷ []), length-take-le i vs l, mul-zero (2 ^ w), add-zero (getD vs i 0 % 2 ^ w))
 
 -- ---- the state before value i
 
@@ -81,24 +77,17 @@ module _ {w : ℕ} {vs out₀ out : List ℕ} {acc bits p i : ℕ} (st : State w
     -- the next number: v above the bits so far
     next : number w (take (i + 1) vs) ≡ number w (take i vs) + 256 ^ p * (v * 2 ^ bits)
     next =
-        let X = number w (take i vs) in
         let e : 2 ^ (i * w) ≡ 256 ^ p * 2 ^ bits = rw (← st .place, pow-256 p) (pow-add 2 (p * 8) bits) in
-        number-suc w i vs h
-        ∙ ap₂ (λ (x y : ℕ). X + x * y) e (sym ev)
-        ∙ ap (λ (x : ℕ). X + x) (mul-assoc (256 ^ p) (2 ^ bits) v ∙ ap (λ (x : ℕ). 256 ^ p * x) (mul-comm (2 ^ bits) v))
+        rw (number-suc w i vs h, e, ← ev, mul-assoc (256 ^ p) (2 ^ bits) v, mul-comm (2 ^ bits) v)
 
     -- above the bytes that are stored,
     rest : number w (take (i + 1) vs) / 256 ^ p ≡ v * 2 ^ bits + acc
     rest =
-        ap (λ (x : ℕ). x / 256 ^ p) next
-        ∙ add-mul-div-left (number w (take i vs)) (v * 2 ^ bits) (one-le-pow p 256 (zero-lt-suc 255))
-        ∙ ap (λ (x : ℕ). x + v * 2 ^ bits) (sym (st .held))
-        ∙ add-comm acc (v * 2 ^ bits)
+        rw (next, add-mul-div-left (number w (take i vs)) (v * 2 ^ bits) (one-le-pow p 256 (zero-lt-suc 255)), ← st .held) (add-comm acc (v * 2 ^ bits))
 
     -- which are the same
     front : out ≡ digits 256 p (number w (take (i + 1) vs)) ++ drop p out₀
-    front =
-        st .done ∙ ap (λ (l : List ℕ). l ++ drop p out₀) (sym (ap (digits 256 p) next ∙ digits-ignore 256 p (number w (take i vs)) (v * 2 ^ bits) (zero-lt-suc 255)))
+    front = rw (next, digits-ignore 256 p (number w (take i vs)) (v * 2 ^ bits) (zero-lt-suc 255)) (st .done)
 
     place′ : (i + 1) * w ≡ p * 8 + (bits + w)
     place′ = omega (arith, st .place, ap (λ (k : ℕ). k * w) (add-one i) ∙ suc-mul i w)
@@ -130,20 +119,13 @@ module _ {w : ℕ} {vs out₀ out : List ℕ} {acc bits p i : ℕ} (st : State w
       store w64 eo =
           let X = number w (take (i + 1) vs) in
           let word : digits 256 8 (bitOr acc (v * 2 ^ bits % 2 ^ 64)) ≡ digits 256 8 (X / 256 ^ p)
-          = ap (digits 256 8) (or-low acc v bits acc-lt (st .few)) ∙ digits-mod-pow 256 8 (v * 2 ^ bits + acc) (zero-lt-suc 255) ∙ ap (digits 256 8) (sym rest) in
+          = rw (or-low acc v bits acc-lt (st .few), rest) (digits-mod-pow 256 8 (v * 2 ^ bits + acc) (zero-lt-suc 255)) in
           record {
             more = omega arith;
             place = omega (arith, place′);
             few = omega (arith, st .few);
-            held =
-                over acc v bits acc-lt (st .few)
-                ∙ ap (λ (k : ℕ). k / 256 ^ 8) (sym rest)
-                ∙ div-div-eq-div-mul X (256 ^ p) (256 ^ 8)
-                ∙ ap (λ (k : ℕ). X / k) (sym (pow-add 256 p 8));
-            done =
-                eo ∙ ap₂ (λ (a b : List ℕ). sets a p b) front word
-                ∙ store-run (digits 256 p X) out₀ p (length-digits 256 p X) (digits 256 8 (X / 256 ^ p)) 8 (length-digits 256 8 (X / 256 ^ p)) word-room
-                ∙ ap (λ (l : List ℕ). l ++ drop (p + 8) out₀) (sym (digits-add 256 p 8 X));
+            held = rw (over acc v bits acc-lt (st .few), ← rest, pow-add 256 p 8) (div-div-eq-div-mul X (256 ^ p) (256 ^ 8));
+            done = eo ∙ ap₂ (λ (a b : List ℕ). sets a p b) front word ∙ store-digits X p 8 out₀ word-room;
             same = ap length eo ∙ length-sets out p (digits 256 8 (bitOr acc (v * 2 ^ bits % 2 ^ 64))) ∙ st .same;
           }
 
@@ -159,10 +141,9 @@ module _ {w : ℕ} {vs out₀ out : List ℕ} {acc bits p i : ℕ} (st : State w
     finish room eo =
         let t = (bits + 7) / 8 in
         let Y = number w vs in
-        let eX : number w (take i vs) ≡ Y = ap (λ (k : ℕ). number w (take k vs)) e ∙ ap (number w) (take-length vs) in
+        let eX : number w (take i vs) ≡ Y = rw (e, take-length vs) in
         let fits : p + t ≤ length out₀ = omega (arith, whole-len) in
         eo
         ∙ ap₂ (λ (a b : List ℕ). sets a p b) (rw eX at (st .done)) (ap (digits 256 t) (rw eX at (st .held)))
-        ∙ store-run (digits 256 p Y) out₀ p (length-digits 256 p Y) (digits 256 t (Y / 256 ^ p)) t (length-digits 256 t (Y / 256 ^ p)) fits
-        ∙ ap (λ (l : List ℕ). l ++ drop (p + t) out₀) (sym (digits-add 256 p t Y))
+        ∙ store-digits Y p t out₀ fits
         ∙ ap (λ (k : ℕ). digits 256 k Y ++ drop k out₀) (sym whole-len)

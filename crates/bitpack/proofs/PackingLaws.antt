@@ -39,9 +39,8 @@ module _ (w : ℕ) where
   pub number-append : (xs ys : List ℕ) → number w (xs ++ ys) ≡ number w xs + 2 ^ (length xs * w) * number w ys
   unfolding number
   number-append xs ys =
-      ap (ofDigits (2 ^ w)) (map-append (λ v. v % 2 ^ w) xs ys)
-      ∙ ofDigits-append (2 ^ w) (map (λ v. v % 2 ^ w) xs) (map (λ v. v % 2 ^ w) ys)
-      ∙ ap (λ (y : ℕ). number w xs + y * number w ys) (ap (λ (n : ℕ). (2 ^ w) ^ n) (length-map xs (λ v. v % 2 ^ w)) ∙ pow-pow 2 w (length xs))
+      let cut : ℕ → ℕ = λ v. v % 2 ^ w in
+      rw (map-append cut xs ys, ofDigits-append (2 ^ w) (map cut xs) (map cut ys), length-map xs cut, pow-pow 2 w (length xs))
 
   -- ---- a multiple of eight values
 
@@ -74,7 +73,4 @@ module _ (w : ℕ) where
     -- read before others
     pub unpacked-append : (n : ℕ) {body : List ℕ} → Below 256 body → unpacked w (8 * k + n) body ≡ unpacked w (8 * k) body ++ unpacked w n (drop (k * w) body)
     unfolding unpacked
-    unpacked-append n {body} h =
-        digits-add (2 ^ w) (8 * k) n (ofDigits 256 body)
-        ∙ ap (λ (y : ℕ). digits (2 ^ w) (8 * k) (ofDigits 256 body) ++ digits (2 ^ w) n y)
-        (ap (λ (y : ℕ). ofDigits 256 body / y) (pow-pow 2 w (8 * k) ∙ sym power-8) ∙ sym (ofDigits-drop (k * w) h))
+    unpacked-append n {body} h = rw (digits-add (2 ^ w) (8 * k) n (ofDigits 256 body), pow-pow 2 w (8 * k), ← power-8, ← ofDigits-drop (k * w) h)

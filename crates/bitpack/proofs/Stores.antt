@@ -17,14 +17,10 @@ use Rattle.bitpack.proofs.Digits.{digits-add}
 module _ (f l : List ℕ) (k : ℕ) (e : length f ≡ k) where
   -- one element more
   pub fill-step : (v : ℕ) → k < length l → set (f ++ drop k l) k v ≡ (f ++ (v ∷ [])) ++ drop (k + 1) l
-  fill-step v h =
-      ap (λ (r : List ℕ). set (f ++ r) k v) (drop-cons l k 0 h)
-      ∙ set-at f (getD l k 0) (drop (suc k) l) v k e
-      ∙ sym (append-snoc f v (drop (suc k) l))
-      ∙ ap (λ (n : ℕ). (f ++ (v ∷ [])) ++ drop n l) (sym (add-one k))
+  fill-step v h = rw (add-one k, drop-cons l k 0 h, append-snoc f v (drop (suc k) l)) (set-at f (getD l k 0) (drop (suc k) l) v k e)
 
   -- a run more
-  pub store-run : (g : List ℕ) (n : ℕ) → length g ≡ n → k + n ≤ length l → sets (f ++ drop k l) k g ≡ (f ++ g) ++ drop (k + n) l
+  store-run : (g : List ℕ) (n : ℕ) → length g ≡ n → k + n ≤ length l → sets (f ++ drop k l) k g ≡ (f ++ g) ++ drop (k + n) l
   store-run g n eg h =
       let whole = f ++ drop k l in
       let room : k + length g ≤ length whole = omega (arith, length-append f (drop k l), length-drop k l) in
@@ -58,8 +54,11 @@ sets-append (x ∷ a) b l i =
 pub tail-step : (x j p : ℕ) (l : List ℕ) {y v : ℕ} {out : List ℕ} → out ≡ sets l p (digits 256 j x) → y ≡ x / 256 ^ j → v ≡ y % 256
     → set out (p + j) v ≡ sets l p (digits 256 (j + 1) x)
 unfolding digits
-tail-step x j p l {y} {v} {out} eo ey ev =
-    ap₂ (λ (o : List ℕ) (z : ℕ). set o (p + j) z) eo (ev ∙ ap (λ (z : ℕ). z % 256) ey)
-    ∙ ap (λ (k : ℕ). set (sets l p (digits 256 j x)) (p + k) (x / 256 ^ j % 256)) (sym (length-digits 256 j x))
-    ∙ sym (sets-append (digits 256 j x) (x / 256 ^ j % 256 ∷ []) l p)
-    ∙ ap (sets l p) (sym (digits-add 256 j 1 x))
+tail-step x j p l eo ey ev =
+    rw (eo, ev, ey, digits-add 256 j 1 x, sets-append (digits 256 j x) (x / 256 ^ j % 256 ∷ []) l p, length-digits 256 j x)
+
+-- t bytes more of x, after its p lowest
+pub store-digits : (x p t : ℕ) (l : List ℕ) → p + t ≤ length l
+    → sets (digits 256 p x ++ drop p l) p (digits 256 t (x / 256 ^ p)) ≡ digits 256 (p + t) x ++ drop (p + t) l
+store-digits x p t l h =
+    rw (digits-add 256 p t x) (store-run (digits 256 p x) l p (length-digits 256 p x) (digits 256 t (x / 256 ^ p)) t (length-digits 256 t (x / 256 ^ p)) h)

@@ -20,8 +20,7 @@ pub record Filled (w : ℕ) (s out₀ out : List ℕ) (i : ℕ) : Type 0 where
 -- one value more
 unpacked-suc : (w i : ℕ) (s : List ℕ) → unpacked w (i + 1) s ≡ unpacked w i s ++ (ofDigits 256 s / 2 ^ (i * w) % 2 ^ w ∷ [])
 unfolding unpacked digits
-unpacked-suc w i s =
-    digits-add (2 ^ w) i 1 (ofDigits 256 s) ∙ ap (λ (x : ℕ). digits (2 ^ w) i (ofDigits 256 s) ++ (ofDigits 256 s / x % 2 ^ w ∷ [])) (pow-pow 2 w i)
+unpacked-suc w i s = rw (digits-add (2 ^ w) i 1 (ofDigits 256 s), pow-pow 2 w i)
 
 module _ {w : ℕ} {s : List ℕ} where
   pub none : {out : List ℕ} → Filled w s out out 0
