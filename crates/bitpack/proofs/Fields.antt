@@ -1,5 +1,6 @@
 -- A field of a number N: the w bits from a bit on, N / 2 ^ bit % 2 ^ w, out of the word at the bit's byte and, where they end past it, the ninth byte. The laws
--- speak of N and of two of its parts alone, whatever list of bytes these were loaded from, so they serve bytes read in either order.
+-- speak of N and of two of its parts alone, whatever list of bytes these were loaded from: N may be the number of the bytes, or of the same bytes in reverse, so
+-- the laws serve fields read most significant first too.
 use mathlib.Core.Path.{_≡_, sym, ap, ap₂, _∙_}
 use Prim.Native.Nat.{ℕ, _+_, _-_, _*_, _/_, _%_, _^_, _≤_, _<_}
 use native.Mathlib.Nat.{add-zero, mul-mod-left, mod-lt, div-add-mod', one-mul, mod-eq-of-lt}
@@ -36,6 +37,12 @@ module _ (N bit w : ℕ) where
       ∙ field (N / 256 ^ (bit / 8)) (64 - bit % 8) (bit % 8)
       ∙ ap (λ (x : ℕ). x % 2 ^ (64 - bit % 8)) at-bit
 
+  -- the ninth byte begins where the word ends
+  far : N / 256 ^ (bit / 8 + 8) ≡ N / 2 ^ bit / 2 ^ (64 - bit % 8)
+  far =
+      let ends : (bit / 8 + 8) * 8 ≡ bit + (64 - bit % 8) = omega arith in
+      rw (pow-256 (bit / 8 + 8), ends) (sym (shr-shr N bit (64 - bit % 8)))
+
   module _ {x m : ℕ} (ex : x ≡ N / 256 ^ (bit / 8) % 2 ^ 64) (em : m ≡ 2 ^ w - 1) where
     -- the field ends inside the word x
     pub low-bits : bit % 8 + w ≤ 64 → bitAnd (x / 2 ^ (bit % 8)) m ≡ N / 2 ^ bit % 2 ^ w
@@ -44,12 +51,6 @@ module _ (N bit w : ℕ) where
         masked (x / 2 ^ (bit % 8)) w em
         ∙ ap (λ (y : ℕ). y % 2 ^ w) (ap (λ (y : ℕ). y / 2 ^ (bit % 8)) ex ∙ shifted ∙ ap (λ (y : ℕ). N / 2 ^ bit % 2 ^ y) e)
         ∙ mod-mod-pow (N / 2 ^ bit) (64 - bit % 8 - w) w
-
-    -- the ninth byte begins where the word ends
-    far : N / 256 ^ (bit / 8 + 8) ≡ N / 2 ^ bit / 2 ^ (64 - bit % 8)
-    far =
-        let ends : (bit / 8 + 8) * 8 ≡ bit + (64 - bit % 8) = omega arith in
-        rw (pow-256 (bit / 8 + 8), ends) (sym (shr-shr N bit (64 - bit % 8)))
 
     -- it ends in the byte after it, h
     pub nine-bytes : {h : ℕ} → h ≡ N / 256 ^ (bit / 8 + 8) % 256 → w ≤ 64
