@@ -94,7 +94,7 @@ def main():
     root = Path(__file__).resolve().parents[3]
     if not shutil.which("rt"):
         fail("rt, Rattle's checker, is not installed or not in the path.")
-    records = read_records(root / "tools" / "oracle" / "stored", options.quick)
+    records = read_records(root / "crates" / "replay" / "data", options.quick)
     if options.plant:
         plant(records)
     made = [x for r in records for x in making.make(r)]

@@ -1,0 +1,73 @@
+// Values made from a seed, and checksums, as docs/ORACLE.md has them ("States", "Checksum").
+ghost use Prim.Native.Nat.{_<_};
+use crate::fields;
+
+// As many values as a record has at most.
+const VALUES: usize = 1024;
+
+const FNV_START: u64 = 14695981039346656037;
+
+fn low_half(x: u64) -> u64
+    ensures { λ r. ⌜ r < 4294967296 ⌝ }
+{
+    x % 4294967296
+}
+
+fn high_half(x: u64) -> u64
+    ensures { λ r. ⌜ r < 4294967296 ⌝ }
+{
+    x >> 32
+}
+
+// s times 6364136223846793005, which is 1481765933 times 2^32 and 1284865837 more, plus 1442695040888963407.
+fn next_state(s: u64) -> u64 {
+    let high = std::num::wrapping_add_u64(high_half(s) * 1284865837, low_half(s) * 1481765933);
+    let product = std::num::wrapping_add_u64(low_half(s) * 1284865837, high << 32);
+    std::num::wrapping_add_u64(product, 1442695040888963407)
+}
+
+pub(crate) fn values(seed: u64) -> [u64; VALUES] {
+    let mut values = [0u64; VALUES];
+    let mut state = seed;
+    for i in 0..VALUES {
+        state = next_state(state);
+        values[i] = state ^ (state >> 33);
+    }
+    values
+}
+
+// FNV-1a: one byte more. The factor 1099511628211 is 2^40 + 2^8 + 2^7 + 2^5 + 2^4 + 2 + 1.
+fn add_byte(sum: u64, b: u64) -> u64 {
+    let x = sum ^ b;
+    let high = std::num::wrapping_add_u64(x << 40, x << 8);
+    let middle = std::num::wrapping_add_u64(x << 7, x << 5);
+    let low = std::num::wrapping_add_u64(x << 4, std::num::wrapping_add_u64(x << 1, x));
+    std::num::wrapping_add_u64(high, std::num::wrapping_add_u64(middle, low))
+}
+
+// The checksum of the first n bytes of s.
+pub(crate) fn checksum(s: &[u8], n: usize) -> u64 {
+    let mut sum = FNV_START;
+    for i in 0..n {
+        sum = add_byte(sum, fields::byte_at(s, 0, i) as u64);
+    }
+    sum
+}
+
+// The checksum of the first n values: that of their eight-byte words.
+pub(crate) fn checksum_of_values(values: &[u64; VALUES], n: usize) -> u64 {
+    let mut sum = FNV_START;
+    for i in 0..VALUES {
+        if i < n {
+            sum = add_word(sum, values[i]);
+        }
+    }
+    sum
+}
+
+fn add_word(sum: u64, x: u64) -> u64 {
+    let two = add_byte(add_byte(sum, x & 0xff), (x >> 8) & 0xff);
+    let four = add_byte(add_byte(two, (x >> 16) & 0xff), (x >> 24) & 0xff);
+    let six = add_byte(add_byte(four, (x >> 32) & 0xff), (x >> 40) & 0xff);
+    add_byte(add_byte(six, (x >> 48) & 0xff), x >> 56)
+}
