@@ -1,0 +1,1 @@
+-- No laws of its own yet.

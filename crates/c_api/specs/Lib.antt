@@ -1,0 +1,2 @@
+-- What the contracts of `c_api` cite beside the definitions of `format`.
+pub mod Flat

@@ -1,0 +1,66 @@
+// The calls for programs in other languages: `rt staticlib c_api` writes target/staticlib/libc_api.a, which a C or Rust
+// program on x86-64 links. No function has a `requires`, so there is nothing that a caller must test first.
+//
+// How C sees them. A slice is two arguments in its place, a pointer and a count of elements: `&[u64]` is
+// `const uint64_t *, size_t`, `&mut [u8]` is `uint8_t *, size_t`. What the proofs take for granted of a slice, as of a Rust
+// slice, a caller in C has to see to: the pointer is not null and aligned, also where the count is 0; the elements are
+// initialised; and a `&mut` slice overlaps no other argument. `usize` is `size_t`. An enum does not cross, so an answer
+// is returned as a struct by value:
+//
+//     struct warpboulder_answer { uint32_t number; size_t offset; size_t count; };
+//     struct warpboulder_answer warpboulder_pack(const uint64_t *values, size_t values_len, uint32_t width,
+//                                                uint8_t *out, size_t out_len);
+ghost use mathlib.Core.Path.{_≡_};
+ghost use lib.ListN.{length};
+ghost use Rattle.format.specs.Standalone.{packAnswer, packOutput, unpackAnswer, unpackBuffer};
+ghost use Rattle.c_api.specs.Flat.{flat};
+use format::Answer;
+
+// An answer in three numbers: the refusal's number and offset, both 0 where it is accepted, and the count of values or
+// bytes stored, 0 where it is refused.
+#[repr(C)]
+pub struct FlatAnswer {
+    pub number: u32,
+    pub offset: usize,
+    pub count: usize,
+}
+
+fn flat_answer(answer: Answer) -> FlatAnswer
+    ensures { λ r. ⌜ r ≡ flat answer ⌝ }
+{
+    match answer {
+        Answer::Accepted(count) => FlatAnswer {
+            number: 0,
+            offset: 0,
+            count,
+        },
+        Answer::Refused(number, offset) => FlatAnswer {
+            number,
+            offset,
+            count: 0,
+        },
+    }
+}
+
+// Packs `values` at `width` bits each to the front of `out`.
+#[no_mangle]
+pub extern "C" fn warpboulder_pack(values: &[u64], width: u32, out: &mut [u8]) -> FlatAnswer
+    ensures { λ r. ⌜ (r ≡ flat (packAnswer (now (values .entry)) width (length (now (out .entry)))))
+        × (now (out .exit) ≡ packOutput (now (values .entry)) width (now (out .entry))) ⌝ }
+{
+    flat_answer(bitpack::pack(values, width, out))
+}
+
+// Unpacks `count` values of `width` bits from `bytes` to the front of `out`.
+#[no_mangle]
+pub extern "C" fn warpboulder_unpack(
+    bytes: &[u8],
+    width: u32,
+    count: usize,
+    out: &mut [u64],
+) -> FlatAnswer
+    ensures { λ r. ⌜ (r ≡ flat (unpackAnswer (now (bytes .entry)) width count (length (now (out .entry)))))
+        × (now (out .exit) ≡ unpackBuffer (now (bytes .entry)) width count (now (out .entry))) ⌝ }
+{
+    flat_answer(bitpack::unpack(bytes, width, count, out))
+}
