@@ -1,1 +1,3 @@
--- No laws of its own yet.
+-- The laws that the proofs of `c_api` cite.
+pub mod Filled
+pub mod Rows

@@ -12,9 +12,12 @@
 //                                                uint8_t *out, size_t out_len);
 ghost use mathlib.Core.Path.{_≡_};
 ghost use lib.ListN.{length};
+ghost use Rattle.format.specs.Answers.{stored};
 ghost use Rattle.format.specs.Standalone.{packAnswer, packOutput, unpackAnswer, unpackBuffer};
 ghost use Rattle.c_api.specs.Flat.{flat};
+ghost use Rattle.c_api.specs.Rows.{rowValues, rowBytes};
 use format::Answer;
+use format::UvarintAnswer;
 
 // An answer in three numbers: the refusal's number and offset, both 0 where it is accepted, and the count of values or
 // bytes stored, 0 where it is refused.
@@ -63,4 +66,42 @@ pub extern "C" fn warpboulder_unpack(
         × (now (out .exit) ≡ unpackBuffer (now (bytes .entry)) width count (now (out .entry))) ⌝ }
 {
     flat_answer(bitpack::unpack(bytes, width, count, out))
+}
+
+// Reads varints in a row from the front of `bytes` to the front of `out`, until it is full or one is refused. Returns how many.
+#[no_mangle]
+pub extern "C" fn warpboulder_read_uvarints(bytes: &[u8], out: &mut [u64]) -> usize
+    ensures { λ r. ⌜ (r ≡ length (rowValues (now (bytes .entry)) 0 (length (now (out .entry)))))
+        × (now (out .exit) ≡ stored (rowValues (now (bytes .entry)) 0 (length (now (out .entry)))) (now (out .entry))) ⌝ }
+{
+    let mut pos: usize = 0;
+    let mut i: usize = 0;
+    while i < out.len() {
+        let answer = varint::read_uvarint(bytes, pos);
+        let UvarintAnswer::Read(value, next, _) = answer else {
+            return i;
+        };
+        out[i] = value;
+        pos = next;
+        i += 1;
+    }
+    i
+}
+
+// Writes the varints of `values` in a row to the front of `out`, until all are written or one does not fit. Returns how many
+// bytes.
+#[no_mangle]
+pub extern "C" fn warpboulder_write_uvarints(values: &[u64], out: &mut [u8]) -> usize
+    ensures { λ r. ⌜ (r ≡ length (rowBytes (now (values .entry)) (length (now (out .entry)))))
+        × (now (out .exit) ≡ stored (rowBytes (now (values .entry)) (length (now (out .entry)))) (now (out .entry))) ⌝ }
+{
+    let mut at: usize = 0;
+    for i in 0..values.len() {
+        let answer = varint::write_uvarint(values[i], &mut out[at..]);
+        let Answer::Accepted(written) = answer else {
+            return at;
+        };
+        at += written;
+    }
+    at
 }
