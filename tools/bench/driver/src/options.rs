@@ -1,0 +1,37 @@
+//! The command line.
+
+/// Our calls refuse more values, as document 01 says.
+const MOST_VALUES: usize = 1 << 24;
+
+pub struct Options {
+    pub count: usize,
+    pub rounds: usize,
+    pub markdown: bool,
+}
+
+impl Options {
+    pub fn from_arguments() -> Result<Options, String> {
+        let mut options = Options { count: 1_000_000, rounds: 25, markdown: false };
+        let mut arguments = std::env::args().skip(1);
+        while let Some(argument) = arguments.next() {
+            match argument.as_str() {
+                "--count" => options.count = number("--count", arguments.next(), MOST_VALUES)?,
+                "--rounds" => options.rounds = number("--rounds", arguments.next(), 1_000_000)?,
+                "--markdown" => options.markdown = true,
+                _ => {
+                    return Err(format!(
+                        "there is no option {argument}; the options are --count N, --rounds N and --markdown."
+                    ))
+                }
+            }
+        }
+        Ok(options)
+    }
+}
+
+fn number(option: &str, argument: Option<String>, most: usize) -> Result<usize, String> {
+    argument
+        .and_then(|text| text.parse().ok())
+        .filter(|number| (1..=most).contains(number))
+        .ok_or_else(|| format!("{option} needs a number from 1 to {most}."))
+}

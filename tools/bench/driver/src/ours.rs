@@ -1,0 +1,45 @@
+//! Our exported functions, as crates/c_api/src/lib.rt says that C sees them: a slice is a pointer and a count. They ask
+//! nothing of their arguments, and a Rust slice is what they take a slice for, so these wrappers are safe.
+
+#[repr(C)]
+#[derive(Debug, PartialEq)]
+pub struct Answer {
+    pub number: u32,
+    pub offset: usize,
+    pub count: usize,
+}
+
+/// The answer that stands for this count of values or bytes stored.
+pub fn accepted(count: usize) -> Answer {
+    Answer { number: 0, offset: 0, count }
+}
+
+extern "C" {
+    fn warpboulder_pack(values: *const u64, values_len: usize, width: u32, out: *mut u8, out_len: usize) -> Answer;
+    fn warpboulder_unpack(
+        bytes: *const u8,
+        bytes_len: usize,
+        width: u32,
+        count: usize,
+        out: *mut u64,
+        out_len: usize,
+    ) -> Answer;
+    fn warpboulder_read_uvarints(bytes: *const u8, bytes_len: usize, out: *mut u64, out_len: usize) -> usize;
+    fn warpboulder_write_uvarints(values: *const u64, values_len: usize, out: *mut u8, out_len: usize) -> usize;
+}
+
+pub fn pack(values: &[u64], width: u32, out: &mut [u8]) -> Answer {
+    unsafe { warpboulder_pack(values.as_ptr(), values.len(), width, out.as_mut_ptr(), out.len()) }
+}
+
+pub fn unpack(bytes: &[u8], width: u32, count: usize, out: &mut [u64]) -> Answer {
+    unsafe { warpboulder_unpack(bytes.as_ptr(), bytes.len(), width, count, out.as_mut_ptr(), out.len()) }
+}
+
+pub fn read_uvarints(bytes: &[u8], out: &mut [u64]) -> usize {
+    unsafe { warpboulder_read_uvarints(bytes.as_ptr(), bytes.len(), out.as_mut_ptr(), out.len()) }
+}
+
+pub fn write_uvarints(values: &[u64], out: &mut [u8]) -> usize {
+    unsafe { warpboulder_write_uvarints(values.as_ptr(), values.len(), out.as_mut_ptr(), out.len()) }
+}

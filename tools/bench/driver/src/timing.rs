@@ -1,0 +1,26 @@
+//! The clock.
+
+use std::time::Instant;
+
+/// The best time of each side, in nanoseconds a value.
+pub struct Times {
+    pub original: f64,
+    pub ours: f64,
+}
+
+/// Runs both sides in turn, so that whatever else the machine does meets both.
+pub fn race(rounds: usize, count: usize, mut original: impl FnMut(), mut ours: impl FnMut()) -> Times {
+    let mut best = Times { original: f64::MAX, ours: f64::MAX };
+    for _ in 0..rounds {
+        best.original = best.original.min(once(count, &mut original));
+        best.ours = best.ours.min(once(count, &mut ours));
+    }
+    best
+}
+
+/// The time of one run, in nanoseconds a value.
+pub fn once(count: usize, run: &mut impl FnMut()) -> f64 {
+    let start = Instant::now();
+    run();
+    start.elapsed().as_nanos() as f64 / count as f64
+}
