@@ -1,12 +1,13 @@
 # shellcheck shell=bash
-# Shared by tools/oracle/build, tools/oracle/answers and tools/oracle/definitions, which source this file.
+# Shared by tools/oracle/build, tools/oracle/answers, tools/oracle/definitions and tools/bench/run, which source this file and
+# have their own folder in $here.
 
 # The build folder lies outside the tree, so that no line of the original gets into it.
 # shellcheck disable=SC2034
 build=$(realpath -m "${WARPBOULDER_ORACLE_BUILD:-/tmp/warpboulder-oracle-$(id -u)}")
 
 fail() {
-  printf 'tools/oracle/%s: %s\n' "${0##*/}" "$*" >&2
+  printf 'tools/%s/%s: %s\n' "${here##*/}" "${0##*/}" "$*" >&2
   exit 1
 }
 
@@ -14,4 +15,11 @@ fail() {
 can_write() {
   local probe
   mkdir -p "$1" 2>/dev/null && probe=$(mktemp -p "$1" .probe.XXXXXX 2>/dev/null) && rm "$probe"
+}
+
+# Copies a file unless the same bytes are there, so that cargo builds again only what has changed.
+place() {
+  cmp -s "$1" "$2" && return
+  mkdir -p "$(dirname "$2")"
+  cp "$1" "$2"
 }

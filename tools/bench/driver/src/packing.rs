@@ -7,7 +7,7 @@ use crate::{inputs, ours};
 use basalt_encoding::bitpack;
 use std::hint::black_box;
 
-pub const WIDTHS: [u32; 8] = [1, 7, 8, 13, 32, 33, 57, 64];
+pub const WIDTHS: [u32; 9] = [0, 1, 7, 8, 13, 32, 33, 57, 64];
 
 /// What a buffer holds before it is filled; it is lent with places to spare, which must keep it.
 const OLD: u8 = 0xa5;
