@@ -9,29 +9,39 @@ mod timing;
 mod varints;
 
 use options::Options;
+use table::Row;
+use varints::Reading;
+
+/// The table is gone through so often, so that a disturbance of some seconds does not meet all rounds of a row.
+const PASSES: usize = 3;
+
+/// Every row once.
+fn pass(options: &Options) -> Vec<Row> {
+    let widths = packing::WIDTHS;
+    let mixes = inputs::MIXES;
+    let packs = widths.iter().map(|&width| packing::pack_row(width, options));
+    let unpacks = widths.iter().map(|&width| packing::unpack_row(width, options));
+    let inlined = mixes.iter().map(|&mix| varints::read_row(Reading::Inlined, mix, options));
+    let called = mixes.iter().map(|&mix| varints::read_row(Reading::Called, mix, options));
+    let writes = mixes.iter().map(|&mix| varints::write_row(mix, options));
+    packs.chain(unpacks).chain(inlined).chain(called).chain(writes).collect()
+}
 
 fn main() {
     let options = Options::from_arguments().unwrap_or_else(|message| {
         eprintln!("bench: {message}");
         std::process::exit(2);
     });
-    let mut rows = Vec::new();
-    for width in packing::WIDTHS {
-        rows.push(packing::pack_row(width, &options));
-    }
-    for width in packing::WIDTHS {
-        rows.push(packing::unpack_row(width, &options));
-    }
-    for mix in inputs::MIXES {
-        rows.push(varints::read_row(mix, &options));
-    }
-    for mix in inputs::MIXES {
-        rows.push(varints::write_row(mix, &options));
+    let mut rows = pass(&options);
+    for _ in 1..PASSES {
+        for (row, again) in rows.iter_mut().zip(pass(&options)) {
+            row.times.keep_best(&again.times);
+        }
     }
     table::print(&rows, options.markdown);
     println!();
     println!(
-        "{} values, best of {} rounds. Of the Rust's unpack, {:.2} ns a value are for its new Vec.",
+        "{} values, best of {PASSES} times {} rounds. Of the Rust's unpack, {:.2} ns a value are for its new Vec.",
         options.count,
         options.rounds,
         packing::allocation(&options)

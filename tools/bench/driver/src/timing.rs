@@ -8,12 +8,18 @@ pub struct Times {
     pub ours: f64,
 }
 
+impl Times {
+    pub fn keep_best(&mut self, other: &Times) {
+        self.original = self.original.min(other.original);
+        self.ours = self.ours.min(other.ours);
+    }
+}
+
 /// Runs both sides in turn, so that whatever else the machine does meets both.
 pub fn race(rounds: usize, count: usize, mut original: impl FnMut(), mut ours: impl FnMut()) -> Times {
     let mut best = Times { original: f64::MAX, ours: f64::MAX };
     for _ in 0..rounds {
-        best.original = best.original.min(once(count, &mut original));
-        best.ours = best.ours.min(once(count, &mut ours));
+        best.keep_best(&Times { original: once(count, &mut original), ours: once(count, &mut ours) });
     }
     best
 }

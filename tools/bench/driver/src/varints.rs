@@ -5,6 +5,7 @@ use crate::options::Options;
 use crate::ours;
 use crate::table::Row;
 use crate::timing::race;
+use basalt_common::Result;
 use basalt_encoding::varint;
 use std::hint::black_box;
 
@@ -12,12 +13,27 @@ const WANTED: Option<f64> = Some(1.0);
 const OLD: u8 = 0xa5;
 const SPARE: usize = 16;
 
-/// The loop of our `warpboulder_read_uvarints`, over the original's `read_uvarint`.
-fn original_read(bytes: &[u8], out: &mut [u64]) -> usize {
+/// The original's file once more, for a `read_uvarint` with one caller: only then does the compiler inline it.
+#[allow(dead_code)]
+#[path = "../original/crates/basalt-encoding/src/varint.rs"]
+mod varint_again;
+
+/// How the original's `read_uvarint` comes into the loop over a row.
+#[derive(Clone, Copy)]
+pub enum Reading {
+    /// Inlined, as ours is in our library.
+    Inlined,
+    /// Called for each varint, as it is where it has several callers; the original does not mark it `#[inline]`.
+    Called,
+}
+
+/// The loop of our `warpboulder_read_uvarints`.
+#[inline(always)]
+fn original_row(bytes: &[u8], out: &mut [u64], read: impl Fn(&[u8], &mut usize) -> Result<u64>) -> usize {
     let mut pos = 0;
     let mut i = 0;
     while i < out.len() {
-        let Ok(value) = varint::read_uvarint(bytes, &mut pos) else {
+        let Ok(value) = read(bytes, &mut pos) else {
             return i;
         };
         out[i] = value;
@@ -26,7 +42,19 @@ fn original_read(bytes: &[u8], out: &mut [u64]) -> usize {
     i
 }
 
-/// The original appends to a Vec that is emptied and keeps its room.
+#[inline(never)]
+fn original_inlined(bytes: &[u8], out: &mut [u64]) -> usize {
+    original_row(bytes, out, varint_again::read_uvarint)
+}
+
+#[inline(never)]
+fn original_called(bytes: &[u8], out: &mut [u64]) -> usize {
+    let read: fn(&[u8], &mut usize) -> Result<u64> = black_box(varint::read_uvarint);
+    original_row(bytes, out, read)
+}
+
+/// The loop of our `warpboulder_write_uvarints`. The original appends to a Vec that is emptied and keeps its room.
+#[inline(never)]
 fn original_write(values: &[u64], out: &mut Vec<u8>) {
     out.clear();
     for &value in values {
@@ -34,7 +62,11 @@ fn original_write(values: &[u64], out: &mut Vec<u8>) {
     }
 }
 
-pub fn read_row(mix: Mix, options: &Options) -> Row {
+pub fn read_row(reading: Reading, mix: Mix, options: &Options) -> Row {
+    let (operation, original_read): (_, fn(&[u8], &mut [u64]) -> usize) = match reading {
+        Reading::Inlined => ("read_uvarint, inlined", original_inlined),
+        Reading::Called => ("read_uvarint, called", original_called),
+    };
     let values = mix.values(options.count);
     let mut bytes = Vec::new();
     original_write(&values, &mut bytes);
@@ -53,7 +85,7 @@ pub fn read_row(mix: Mix, options: &Options) -> Row {
             black_box(ours::read_uvarints(black_box(&bytes), black_box(&mut out)));
         },
     );
-    Row { operation: "read_uvarint", input: mix.name(), times, wanted: WANTED }
+    Row { operation, input: mix.name(), times, wanted: WANTED }
 }
 
 pub fn write_row(mix: Mix, options: &Options) -> Row {
