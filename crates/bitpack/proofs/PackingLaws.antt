@@ -4,7 +4,7 @@ use mathlib.Core.Path.{_≡_, sym, ap, ap₂, _∙_}
 use Prim.Native.Nat.{ℕ, _+_, _*_, _/_, _%_, _^_, _<_}
 use native.Mathlib.Nat.{mul-assoc, mul-comm, add-mul, zero-add, div-eq-of-lt, add-mul-div-left, one-le-pow, zero-lt-suc}
 use native.Mathlib.Omega.{arith}
-use mathlib.Core.List.{List, _++_, map, map-append}
+use mathlib.Core.List.{List, [], _++_, map, map-append}
 use lib.ListN.{length, drop, length-append, length-map}
 use lib.Seq.{drop-append-seam}
 use lib.Pow.{pow-pos}
@@ -25,6 +25,12 @@ unpacked-middle w pre vs rest = ap (unpacked w (length vs)) (drop-append-seam pr
 -- values that fit the width come back as they were
 pub unpacked-fitting : (w : ℕ) {vs : List ℕ} (rest : List ℕ) → Below (2 ^ w) vs → unpacked w (length vs) (packed w vs ++ rest) ≡ vs
 unpacked-fitting w {vs} rest h = unpacked-packed w vs rest ∙ mod-below h
+
+-- ---- no bytes
+
+pub packed-none : (w : ℕ) (vs : List ℕ) → packedLen (length vs) w ≡ 0 → packed w vs ≡ []
+unfolding packed digits
+packed-none w vs e = ap (λ (n : ℕ). digits 256 n (ofDigits (2 ^ w) (map (λ v. v % 2 ^ w) vs))) e
 
 -- ---- the number of packed values
 

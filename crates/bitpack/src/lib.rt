@@ -52,6 +52,10 @@ pub fn pack(values: &[u64], width: u32, out: &mut [u8]) -> Answer
     }
     let w = width as usize;
     let needed = bytes_for(values.len(), w);
+    // No bytes: no values, or all at width 0, which need not be walked over.
+    if needed == 0 {
+        return Answer::Accepted(0);
+    }
     if out.len() < needed {
         return Answer::Refused(BUFFER_TOO_SHORT, needed);
     }
