@@ -7,7 +7,7 @@ use native.Mathlib.Nat.{add-zero, mul-mod-left, mod-lt, div-add-mod', one-mul, m
 use native.Mathlib.Omega.{arith}
 use lib.Pow.{pow-lt, pow-pos, field, mod-mod-pow, mod-pow-add, shl-shr, shr-shr}
 use lib.Bits.{bitAnd, bitOr, and-mask, or-shifted-r}
-use Rattle.bitpack.proofs.Digits.{pow-256}
+use Rattle.format.proofs.numbers.Places.{pow-256}
 
 -- ---- masks and shifts
 

@@ -1,5 +1,3 @@
-pub mod Digits
-pub mod Bytes
 pub mod Fields
 pub mod Stores
 pub mod Parts

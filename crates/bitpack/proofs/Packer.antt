@@ -14,7 +14,7 @@ use lib.Bits.{bitOr, or-shifted-r}
 use Rattle.format.specs.Digits.{ofDigits, digits}
 use Rattle.format.specs.Packing.{packedLen, packed}
 use Rattle.format.proofs.numbers.Digits.{digits-ignore}
-use Rattle.bitpack.proofs.Digits.{pow-256, digits-mod-pow}
+use Rattle.format.proofs.numbers.Places.{pow-256, digits-mod-pow}
 use Rattle.bitpack.proofs.Fields.{shl-cut}
 use Rattle.bitpack.proofs.Stores.{store-digits}
 use Rattle.bitpack.proofs.PackingLaws.{number, number-lt, number-append}

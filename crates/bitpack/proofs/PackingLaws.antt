@@ -14,7 +14,7 @@ use Rattle.format.proofs.numbers.All.{Below}
 use Rattle.format.proofs.numbers.Digits.{ofDigits-append, ofDigits-lt, digits-ignore, below-map}
 use Rattle.format.proofs.numbers.Extremes.{mod-below}
 use Rattle.format.proofs.numbers.Packing.{unpacked-packed}
-use Rattle.bitpack.proofs.Digits.{pow-pow, pow-256, digits-add, ofDigits-drop}
+use Rattle.format.proofs.numbers.Places.{pow-pow, pow-256, digits-add, ofDigits-drop}
 
 -- ---- there and back
 

@@ -10,7 +10,7 @@ use lib.ListN.{length, getD, set, drop, length-append, length-drop}
 use lib.Seq.{drop-cons, set-at, append-snoc, sets, sets-eq, take-at, drop-at, drop-append-add, drop-drop}
 use Rattle.format.specs.Digits.{digits}
 use Rattle.format.proofs.numbers.Digits.{length-digits}
-use Rattle.bitpack.proofs.Digits.{digits-add}
+use Rattle.format.proofs.numbers.Places.{digits-add}
 
 -- ---- a front over what was there
 

@@ -10,7 +10,7 @@ use Rattle.format.specs.Digits.{ofDigits, digits}
 use Rattle.format.specs.Packing.{unpacked}
 use Rattle.format.proofs.codecs.Counts.{length-unpacked}
 use Rattle.bitpack.specs.Loads.{Within}
-use Rattle.bitpack.proofs.Digits.{pow-pow, digits-add}
+use Rattle.format.proofs.numbers.Places.{pow-pow, digits-add}
 use Rattle.bitpack.proofs.Stores.{fill-step, front-again, front-past}
 
 pub record Filled (w : ℕ) (s out₀ out : List ℕ) (i : ℕ) : Type 0 where

@@ -1,8 +1,8 @@
 -- Bit packing, for any width: how long packed values are, and that unpacking gives them back. Packed bytes are the digits in base 256 of the number whose digits
 -- in base 2 ^ w are the values; both have room for the same bits, so the one list of digits is read off the other.
 use mathlib.Core.Path.{_≡_, sym, ap, ap₂, _∙_}
-use Prim.Native.Nat.{ℕ, zero, suc, _+_, _-_, _*_, _%_, _^_, _<_, _≤_, min}
-use native.Mathlib.Nat.{mul-assoc, pow-zero, pow-suc, mod-eq-of-lt, zero-lt-suc, zero-mul, suc-mul, mul-one, mul-le-mul-left, add-sub-of-le, lt-of-lt-of-le, le-trans, le-of-eq, add-mul}
+use Prim.Native.Nat.{ℕ, _+_, _-_, _*_, _%_, _^_, _<_, _≤_, min}
+use native.Mathlib.Nat.{mul-assoc, mod-eq-of-lt, zero-lt-suc, zero-mul, mul-one, mul-le-mul-left, add-sub-of-le, lt-of-lt-of-le, le-trans, le-of-eq, add-mul}
 use native.Mathlib.Decide.{decLe}
 use native.Mathlib.Omega.{arith}
 use mathlib.Core.List.{List, _++_, map}
@@ -11,6 +11,7 @@ use lib.Pow.{pow-pos, pow-add}
 use Rattle.format.specs.Digits.{ofDigits, digits}
 use Rattle.format.specs.Packing.{packedLen, packed, unpacked}
 use Rattle.format.proofs.numbers.All.{Below}
+use Rattle.format.proofs.numbers.Places.{pow-pow}
 use Rattle.format.proofs.numbers.Digits.{length-digits, ofDigits-append, digits-ofDigits, ofDigits-digits, digits-ignore, ofDigits-lt, below-map}
 
 -- ---- lengths
@@ -56,18 +57,14 @@ length-packed w ns = length-digits 256 (packedLen (length ns) w) _
 
 -- ---- there and back
 
-pow-of-pow : (b i j : ℕ) → (b ^ i) ^ j ≡ b ^ (j * i)
-pow-of-pow b i zero = simp (pow-zero, zero-mul)
-pow-of-pow b i (suc j) = pow-suc (b ^ i) j ∙ ap (λ (y : ℕ). y * b ^ i) (pow-of-pow b i j) ∙ sym (pow-add b (j * i) i) ∙ ap (λ (y : ℕ). b ^ y) (sym (suc-mul j i))
-
 -- the packed bytes have room for all the bits: 256 ^ L is a multiple of (2 ^ w) ^ n
 room : (n w : ℕ) → 256 ^ packedLen n w ≡ (2 ^ w) ^ n * 2 ^ (packedLen n w * 8 - n * w)
 unfolding packedLen
 room n w =
-    pow-of-pow 2 8 (packedLen n w)
+    pow-pow 2 8 (packedLen n w)
     ∙ ap (λ (y : ℕ). 2 ^ y) (sym (add-sub-of-le enough))
     ∙ pow-add 2 (n * w) (packedLen n w * 8 - n * w)
-    ∙ ap (λ (y : ℕ). y * 2 ^ (packedLen n w * 8 - n * w)) (sym (pow-of-pow 2 w n))
+    ∙ ap (λ (y : ℕ). y * 2 ^ (packedLen n w * 8 - n * w)) (sym (pow-pow 2 w n))
   where
     enough : n * w ≤ packedLen n w * 8
     enough = omega arith

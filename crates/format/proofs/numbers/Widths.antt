@@ -1,14 +1,15 @@
 -- A number's width is its length in binary digits, the least that holds it, and its varint has a group for every seven of them. Both come from the library's law of
 -- leading zeros: the width holds the number, and 2 to the width is at most twice the number and 1.
-use mathlib.Core.Path.{_≡_, refl, sym, ap, _∙_}
-use Prim.Native.Nat.{ℕ, zero, suc, _+_, _-_, _*_, _^_, _≤_, _<_}
-use native.Mathlib.Nat.{suc-mul, pow-suc, lt-of-le-of-lt, lt-of-lt-of-le, lt-of-not-le}
+use mathlib.Core.Path.{_≡_}
+use Prim.Native.Nat.{ℕ, suc, _+_, _-_, _*_, _^_, _≤_, _<_}
+use native.Mathlib.Nat.{pow-suc, lt-of-le-of-lt, lt-of-lt-of-le, lt-of-not-le}
 use native.Mathlib.Decide.{decLe}
 use native.Mathlib.Omega.{arith}
-use lib.Pow.{pow-mono, pow-add}
+use lib.Pow.{pow-mono}
 use lib.Count.{leadingZeros, leading-length}
 use Rattle.format.specs.Varint.{uvarintLen}
 use Rattle.format.specs.Width.{width}
+use Rattle.format.proofs.numbers.Places.{pow-pow}
 
 -- the width is the number's length in binary digits: it holds the number, and no shorter length does
 width-length : (x : ℕ) → x < 2 ^ 64 → (x < 2 ^ width x) × (2 ^ width x ≤ 2 * x + 1)
@@ -49,8 +50,7 @@ width-mono x y h k = width-least x (width y) (lt-of-le-of-lt h (width-lt y k))
 
 -- groups of seven binary digits
 pub pow-128 : (n : ℕ) → 128 ^ n ≡ 2 ^ (n * 7)
-pow-128 zero = refl
-pow-128 (suc n) = pow-suc 128 n ∙ ap (λ (y : ℕ). y * 128) (pow-128 n) ∙ sym (pow-add 2 (n * 7) 7) ∙ ap (λ (y : ℕ). 2 ^ y) (sym (suc-mul n 7))
+pow-128 n = pow-pow 2 7 n
 
 -- one byte at least
 pub uvarintLen-pos : (x : ℕ) → 1 ≤ uvarintLen x

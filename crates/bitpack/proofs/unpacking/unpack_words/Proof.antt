@@ -9,7 +9,7 @@ use borrow.Author.Needs.{needs}
 use Rattle.format.specs.Digits.{ofDigits}
 use Rattle.format.specs.Packing.{unpacked}
 use Rattle.format.proofs.numbers.All.{all-by}
-use Rattle.bitpack.proofs.Bytes.{word-sum}
+use Rattle.format.proofs.numbers.Words.{word-sum}
 use Rattle.bitpack.proofs.Fields.{low-bits}
 use Rattle.bitpack.proofs.Unpacker.{Filled, none, more, word-inside, word-holds, bit-fits}
 use Rattle.bitpack.proofs.unpacking.unpack_words.Statement.{statement}

@@ -6,7 +6,7 @@ use denote.Ref.{now}
 use borrow.Author.Needs.{needs}
 use Rattle.format.specs.Digits.{ofDigits}
 use Rattle.format.proofs.numbers.All.{all-by}
-use Rattle.bitpack.proofs.Digits.{ofDigits-at}
+use Rattle.format.proofs.numbers.Places.{ofDigits-at}
 use Rattle.bitpack.proofs.Fields.{low-bits, nine-bytes}
 use Rattle.bitpack.proofs.unpacking.value_at.Statement.{statement}
 use Rattle.bitpack.proofs.unpacking.value_at.Tie as tie

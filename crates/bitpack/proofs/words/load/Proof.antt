@@ -3,7 +3,7 @@ use mathlib.Core.Path.{_∙_}
 use denote.Ref.{now}
 use borrow.Author.Needs.{needs}
 use Rattle.format.proofs.numbers.All.{all-by}
-use Rattle.bitpack.proofs.Bytes.{word-sum}
+use Rattle.format.proofs.numbers.Words.{word-sum}
 use Rattle.bitpack.proofs.words.load.Statement.{statement}
 use Rattle.bitpack.proofs.words.load.Tie as tie
 

@@ -9,7 +9,7 @@ use lib.Seq.{sets}
 use denote.Ref.{now}
 use borrow.Author.Needs.{needs}
 use Rattle.format.specs.Digits.{digits}
-use Rattle.bitpack.proofs.Digits.{div-suc}
+use Rattle.format.proofs.numbers.Places.{div-suc}
 use Rattle.bitpack.proofs.Stores.{tail-step}
 use Rattle.bitpack.proofs.words.put_bytes.Statement.{statement}
 use Rattle.bitpack.proofs.words.put_bytes.Tie as tie

@@ -1,16 +1,16 @@
 -- Digits in any base, cut at a place: the digits of a number below and above it, and the number of a list's digits from it on. Shown by induction on the place;
 -- one digit is the quotient and the remainder by the base.
 use mathlib.Core.Path.{_≡_, sym, ap, _∙_}
-use Prim.Native.Nat.{ℕ, zero, suc, _+_, _*_, _/_, _%_, _^_, _<_}
+use Prim.Native.Nat.{ℕ, zero, suc, _+_, _*_, _/_, _%_, _^_, _≤_, _<_}
 use native.Mathlib.Nat.{zero-add, add-zero, suc-add, add-comm, zero-mul, suc-mul, mul-comm, pow-zero, pow-suc, pow-succ', div-one, zero-div, zero-mod, div-div-eq-div-mul, mod-add-div, mod-eq-of-lt, add-mul-mod-self-left}
 use mathlib.Core.List.{List, _++_}
-use lib.ListN.{getD, drop}
-use lib.Seq.{getD-drop}
+use lib.ListN.{length, getD, take, drop, take-append-drop}
+use lib.Seq.{getD-drop, length-take-le}
 use lib.Pow.{pow-add}
 use lib.Arith.{digits-div}
 use Rattle.format.specs.Digits.{ofDigits, digits}
-use Rattle.format.proofs.numbers.All.{all-none, all-more, all-drop, Below}
-use Rattle.format.proofs.numbers.Digits.{digits-ignore}
+use Rattle.format.proofs.numbers.All.{all-none, all-more, all-take, all-drop, Below}
+use Rattle.format.proofs.numbers.Digits.{ofDigits-append, ofDigits-lt, digits-ignore}
 
 -- ---- powers
 
@@ -52,6 +52,16 @@ module _ {b : ℕ} where
       ∙ ap (λ (y : ℕ). y / b ^ p) (sym (digits-div X h) ∙ ap (λ (y : ℕ). y / b) (add-comm (X * b) d ∙ ap (λ (y : ℕ). d + y) (mul-comm X b)))
       ∙ div-div-eq-div-mul (d + b * X) b (b ^ p)
       ∙ ap (λ (y : ℕ). (d + b * X) / y) (sym (pow-succ' b p))
+
+  -- the digits below place p, where so many are there
+  pub ofDigits-take : {ds : List ℕ} (p : ℕ) → Below b ds → p ≤ length ds → ofDigits b (take p ds) ≡ ofDigits b ds % b ^ p
+  ofDigits-take {ds} p h l =
+      let e : length (take p ds) ≡ p = length-take-le p ds l in
+      let small : ofDigits b (take p ds) < b ^ p = rw e at (ofDigits-lt (all-take p h)) in
+      let whole : ofDigits b ds ≡ ofDigits b (take p ds) + b ^ p * ofDigits b (drop p ds)
+      = ap (ofDigits b) (sym (take-append-drop p ds)) ∙ ofDigits-append b (take p ds) (drop p ds)
+      ∙ ap (λ (n : ℕ). ofDigits b (take p ds) + b ^ n * ofDigits b (drop p ds)) e in
+      sym (ap (λ (n : ℕ). n % b ^ p) whole ∙ add-mul-mod-self-left (ofDigits b (take p ds)) (b ^ p) (ofDigits b (drop p ds)) ∙ mod-eq-of-lt small)
 
   lowest : {ds : List ℕ} → Below b ds → ofDigits b ds % b ≡ getD ds 0 0
   unfolding ofDigits
