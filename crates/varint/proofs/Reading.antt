@@ -1,5 +1,5 @@
 -- Reading a varint byte by byte, as `read_uvarint` and the loop of `read_long` do: the walk to the end goes on from the next place, and the value so far is
--- that of the bytes passed. `Reading` is the loop's invariant; the other laws give it at the start, keep it for a turn, and give the answer at each exit.
+-- that of the bytes passed. `Reading`, of specs/, is the loop's invariant; the other laws give it at the start, keep it for a turn, and give the answer at each exit.
 use mathlib.Core.Path.{_≡_, refl, sym, ap, _∙_}
 use mathlib.Core.Bool.{true, not}
 use mathlib.Core.List.{List, [], _∷_, _++_, map, map-append}
@@ -22,6 +22,7 @@ use Rattle.format.specs.declared.VarintAnswer.{VarintAnswer}
 use Rattle.format.specs.declared.VarintAnswer.the-variants.{Read as SignedRead, Malformed as SignedMalformed}
 use Rattle.format.proofs.numbers.Digits.{ofDigits-append}
 use Rattle.format.proofs.numbers.Widths.{pow-128}
+use Rattle.varint.specs.Reading.{Reading}
 
 -- ---- the walk to the end, from a place on: no byte, one too many, the last, or one more
 
@@ -94,17 +95,16 @@ answer-one s at h b =
     let v : getD s at 0 ≡ uvarintValue s at (at + 1) = omega (arith, value-first s at h) in
     rw v (rw (eq-eqb (at + 1) (at + 1) refl) at (answer s at (end-last s at at 9 h b)))
 
--- ---- the loop, after one byte or more
+-- the last byte is at pos, and not the first
+pub answer-more : (s : List ℕ) (at pos : ℕ) → at < pos → uvarintEnd at 10 (drop at s) at ≡ ok (pos + 1)
+    → Read (uvarintValue s at (pos + 1)) (pos + 1) (not (eqb (getD s pos 0) 0)) ≡ uvarintAnswer s at
+unfolding endsUnpadded
+answer-more s at pos h e =
+    let n : pos + 1 ≡ at + 1 → ⊥ = λ p. omega arith in
+    let k : pos + 1 - 1 ≡ pos = omega arith in
+    rw (ne-eqb (pos + 1) (at + 1) n, k) at (answer s at e)
 
--- The bytes from `at` to `pos` are passed, and none of them is the last; `left` more may come. They are worth `value`, and the next counts 2 ^ shift.
-pub record Reading (s : List ℕ) (at value pos shift : ℕ) : Type 0 where
-  pub left : ℕ
-  pub places : pos + left ≡ at + 10
-  pub begun : at < pos
-  pub inside : pos ≤ length s
-  pub weight : shift ≡ (pos - at) * 7
-  pub sum : value ≡ uvarintValue s at pos
-  pub walk : uvarintEnd at 10 (drop at s) at ≡ uvarintEnd at left (drop pos s) pos
+-- ---- the loop, after one byte or more
 
 pub begin : (s : List ℕ) (at : ℕ) → at < length s → 128 ≤ getD s at 0 → Reading s at (getD s at 0 % 128) (at + 1) 7
 begin s at h b =
@@ -142,11 +142,7 @@ module _ {s : List ℕ} {at value pos shift : ℕ} (r : Reading s at value pos s
   -- it is the last
   pub answer-last : pos < at + 10 → pos < length s → getD s pos 0 < 128
       → Read (summed value (getD s pos 0 % 128) shift) (pos + 1) (not (eqb (getD s pos 0) 0)) ≡ uvarintAnswer s at
-  unfolding endsUnpadded
-  answer-last l h b =
-      let n : pos + 1 ≡ at + 1 → ⊥ = λ e. omega (arith, r .begun) in
-      let k : pos + 1 - 1 ≡ pos = omega arith in
-      rw (summed-is h) (rw (ne-eqb (pos + 1) (at + 1) n, k) at (answer s at (walk-next l ∙ end-last s at pos (r .left - 1) h b)))
+  answer-last l h b = rw (summed-is h) (answer-more s at pos (r .begun) (walk-next l ∙ end-last s at pos (r .left - 1) h b))
 
   -- the bytes end
   pub answer-cut : length s ≤ pos → Malformed 6 at ≡ uvarintAnswer s at
@@ -157,6 +153,14 @@ module _ {s : List ℕ} {at value pos shift : ℕ} (r : Reading s at value pos s
   answer-long l h =
       let z : r .left ≡ 0 = omega (arith, r .places) in
       answer s at ((rw z at (r .walk)) ∙ end-eleventh s at pos h)
+
+-- a second byte that is the last
+pub answer-two : (s : List ℕ) (at : ℕ) → at + 1 < length s → 128 ≤ getD s at 0 → getD s (at + 1) 0 < 128
+    → Read (getD s at 0 % 128 + getD s (at + 1) 0 * 128) (at + 2) (not (eqb (getD s (at + 1) 0) 0)) ≡ uvarintAnswer s at
+answer-two s at h b c =
+    let v : getD s at 0 % 128 + getD s (at + 1) 0 * 128 ≡ summed (getD s at 0 % 128) (getD s (at + 1) 0 % 128) 7 = omega arith in
+    let n : at + 2 ≡ at + 1 + 1 = omega arith in
+    rw (v, n) (answer-last (begin s at (omega arith) b) (omega arith) h c)
 
 -- ---- signed
 

@@ -1,14 +1,20 @@
 // Varints: the Rust's varint.rs, but its ZigZag, which is in the crate number. The position that the Rust lends as `&mut usize`
 // is a place passed in and the next place handed back; the `Vec` that it appends to is the front of a lent slice.
 ghost use mathlib.Core.Path.{_≡_};
-ghost use Prim.Native.Nat.{_+_, _%_, _≤_, _<_, min};
 ghost use lib.Dec.{ltb};
-ghost use lib.ListN.{length, getD};
+ghost use lib.ListN.{length};
 ghost use Rattle.format.specs.Varint.{uvarintLen, varintLen};
 ghost use Rattle.format.specs.Standalone.{uvarintAnswer, varintAnswer, uvarintWriteAnswer, uvarintWriteOutput, varintWriteAnswer, varintWriteOutput};
+use crate::long::read_long;
+use crate::long::read_word;
+use crate::words::group;
+use crate::words::wide;
 use format::Answer;
 use format::UvarintAnswer;
 use format::VarintAnswer;
+
+pub(crate) mod long;
+pub(crate) mod words;
 
 // How many bytes `write_uvarint` stores: one for each 7 bits, and one at least.
 pub fn uvarint_len(value: u64) -> usize
@@ -29,47 +35,8 @@ pub fn varint_len(value: i64) -> usize
     uvarint_len(number::zigzag_encode(value))
 }
 
-// The 7 bits of a byte that count.
-fn group(b: u8) -> u64
-    ensures { λ r. ⌜ r ≡ b % 128 ⌝ }
-{
-    (b & 0x7f) as u64
-}
-
-// Where a varint that begins at `at` must have ended: ten bytes on, or where the bytes end.
-fn read_limit(len: usize, at: usize) -> usize
-    requires { ⌜ at ≤ len ⌝ }
-    ensures { λ r. ⌜ r ≡ min len (at + 10) ⌝ }
-{
-    if len - at < 10 { len } else { at + 10 }
-}
-
-// The varint at `at`, whose first byte is there and not its last. One limit stands for both questions, so that a byte costs two
-// tests; past it, an eleventh byte must be there to be one too many, else the varint is cut.
-fn read_long(bytes: &[u8], at: usize) -> UvarintAnswer
-    requires { ⌜ (at < length (now bytes)) × (128 ≤ getD (now bytes) at 0) ⌝ }
-    ensures { λ r. ⌜ r ≡ uvarintAnswer (now (bytes .entry)) at ⌝ }
-{
-    let end = read_limit(bytes.len(), at);
-    let mut value = group(bytes[at]);
-    let mut pos = at + 1;
-    let mut shift: u32 = 7;
-    while pos < end {
-        let b = bytes[pos];
-        value = std::num::wrapping_add_u64(value, group(b) << shift);
-        pos += 1;
-        if b < 128 {
-            return UvarintAnswer::Read(value, pos, b != 0);
-        }
-        shift += 7;
-    }
-    if pos < bytes.len() {
-        return UvarintAnswer::Malformed(format::refusal::VARINT_TOO_LONG, at);
-    }
-    UvarintAnswer::Malformed(format::refusal::VARINT_CUT, at)
-}
-
-// Reads the varint that begins at a place, past the end or not. Most are of one byte, which is asked first.
+// Reads the varint that begins at a place, past the end or not. Most are of one byte, which is asked first, or of two; a longer
+// one is read from one load of eight bytes, and byte by byte near the end.
 pub fn read_uvarint(bytes: &[u8], at: usize) -> UvarintAnswer
     ensures { λ r. ⌜ r ≡ uvarintAnswer (now (bytes .entry)) at ⌝ }
 {
@@ -80,7 +47,14 @@ pub fn read_uvarint(bytes: &[u8], at: usize) -> UvarintAnswer
     if b < 128 {
         return UvarintAnswer::Read(b as u64, at + 1, true);
     }
-    read_long(bytes, at)
+    if 10 <= bytes.len() - at {
+        let c = bytes[at + 1];
+        if c < 128 {
+            return UvarintAnswer::Read(group(b) + wide(c) * 128, at + 2, c != 0);
+        }
+        return read_word(bytes, at);
+    }
+    read_long(bytes, at, group(b), at + 1, 7)
 }
 
 // The same for a signed varint.

@@ -1,8 +1,8 @@
--- `varint::group` meets its contract: a mask of seven bits is the remainder by 2^7.
+-- `varint::words::group` meets its contract: a mask of seven bits is the remainder by 2^7.
 use native.Mathlib.Omega.{arith}
 use lib.Bits.{and-mask, mask-lt}
-use Rattle.varint.proofs.group.Statement.{statement}
-use Rattle.varint.proofs.group.Tie as tie
+use Rattle.varint.proofs.words.group.Statement.{statement}
+use Rattle.varint.proofs.words.group.Tie as tie
 
 cast-result : tie.Need-cast-result
 cast-result c = omega (arith, mask-lt (c .args .b) 7)
