@@ -24,7 +24,8 @@ use Rattle.format.proofs.numbers.Widths.{pow-128}
 use Rattle.format.proofs.numbers.Words.{sum8, word-taken}
 use Rattle.varint.specs.Reading.{Reading, groups8}
 use Rattle.varint.proofs.Reading.{answer-more}
-use Rattle.varint.proofs.Stops.{Stop, Continued, stops, stop-inside, stop-after, walk-stop, walk-on, tops, marks, marked, marks-none, marks-some, marks-zeros, marks-lowest, groups-word}
+use Rattle.varint.proofs.Pairs.{groups-of}
+use Rattle.varint.proofs.Stops.{Stop, Continued, stops, stop-inside, stop-after, walk-stop, walk-on, tops, marks, marked, marks-none, marks-some, marks-zeros, marks-lowest}
 
 -- ---- masks and parts
 
@@ -70,7 +71,7 @@ module _ {s : List ℕ} (at : ℕ) (below : Below 256 s) where
       let m : length (map (λ b. b % 128) bs) ≡ k = simp length-map l in
       let small : ofDigits 128 (map (λ b. b % 128) bs) < 128 ^ k = rw m at (ofDigits-lt (below-map 128 (zero-lt-suc 127) bs)) in
       let few : k * 7 ≤ 64 = omega arith in
-      groups-word (all-take k (all-drop at below)) (omega arith)
+      groups-of 8 (all-take k (all-drop at below)) (omega arith)
       ∙ sym (mod-eq-of-lt (lt-of-lt-of-le (rw (pow-128 k) at small) (pow-mono few)))
       ∙ ap (λ (t : List ℕ). ofDigits 128 (map (λ b. b % 128) t) % 2 ^ 64) (sym (slice-take at k s))
 
@@ -125,12 +126,10 @@ module _ {s : List ℕ} (at : ℕ) (below : Below 256 s) where
         go (inr r) = absurd (marks-some (r .1) (sym ends-is ∙ z))
 
     -- one is, and the zeros tell which
-    pub word-stop : (ends x ≡ 0 → ⊥)
-        → Stop (eightFrom s at) (trailingZeros 64 (ends x) / 8)
+    pub word-stop : (ends x ≡ 0 → ⊥) → Stop (eightFrom s at) (trailingZeros 64 (ends x) / 8)
     word-stop z = go (stops (eightFrom s at))
       where
-        go : Continued (eightFrom s at) ⊎ ((n : ℕ) × Stop (eightFrom s at) n)
-            → Stop (eightFrom s at) (trailingZeros 64 (ends x) / 8)
+        go : Continued (eightFrom s at) ⊎ ((n : ℕ) × Stop (eightFrom s at) n) → Stop (eightFrom s at) (trailingZeros 64 (ends x) / 8)
         go (inl r) = absurd (z (ends-is ∙ marks-none r))
         go (inr r) =
             let p : trailingZeros 64 (ends x) ≡ r .0 * 8 + 7

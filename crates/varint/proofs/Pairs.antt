@@ -1,16 +1,16 @@
--- The groups of seven bits in eight bytes, as `groups` finds them: two masks and a shift join the groups of each pair of bytes, and the four pairs are joined as
+-- The groups of seven bits in eight bytes or fewer, as `groups` finds them: two masks and a shift join the groups of each pair of bytes, and the four pairs are joined as
 -- digits in base 65536. A mask that repeats in each digit masks each digit, by induction on the digits.
-use mathlib.Core.Path.{_≡_, sym, ap, ap₂, _∙_}
-use mathlib.Core.List.{[], _∷_, map}
-use Prim.Native.Nat.{ℕ, zero, suc, _+_, _*_, _/_, _%_, _^_, _<_}
+use mathlib.Core.Path.{_≡_, refl, sym, ap, ap₂, _∙_}
+use mathlib.Core.List.{List, [], _∷_, map}
+use Prim.Native.Nat.{ℕ, zero, suc, _+_, _*_, _/_, _%_, _^_, _≤_, _<_, zero-le}
 use native.Mathlib.Nat.{add-zero, mod-lt, zero-lt-suc, div-one, div-div-eq-div-mul}
 use native.Mathlib.Omega.{arith}
 use lib.Bits.{bitAnd, and-zero-r, and-block, and-mask, and-high}
 use lib.Dec.{lit<}
-use lib.ListN.{getD}
+use lib.ListN.{length, getD}
 use lib.Pow.{split}
 use Rattle.format.specs.Digits.{ofDigits, digits}
-use Rattle.format.proofs.numbers.All.{all-by, all-map, Below}
+use Rattle.format.proofs.numbers.All.{all-none, all-more, all-by, all-map, Below}
 use Rattle.format.proofs.numbers.Places.{ofDigits-at, ofDigits-drop}
 use Rattle.varint.specs.Reading.{groups8}
 
@@ -73,8 +73,12 @@ pair-lt d = omega arith
 
 spread : (a b c d e f g h : ℕ)
     → (a + b * 128) + (c + d * 128) * 16384 + (e + f * 128) * 268435456 + (g + h * 128) * 4398046511104
-    ≡ a + b * 128 + c * 16384 + d * 2097152 + e * 268435456 + f * 34359738368 + g * 4398046511104 + h * 562949953421312
+    ≡ ofDigits 128 (a ∷ b ∷ c ∷ d ∷ e ∷ f ∷ g ∷ h ∷ [])
+unfolding ofDigits
 spread a b c d e f g h = omega arith
+
+byte-group : (u : ℕ) → u % 256 % 128 ≡ u % 128
+byte-group u = omega arith
 
 low-group : (u : ℕ) → u % 65536 % 128 ≡ u % 128
 low-group u = omega arith
@@ -87,4 +91,18 @@ unfolding digits pair
 groups-are x =
     ap quads (pairs-are x)
     ∙ quads-are _ _ _ _ (all-map pair (all-by (digits 65536 4 x) 0 λ i _. pair-lt (getD (digits 65536 4 x) i 0)))
-    ∙ simp (low-group, high-group, div-div-eq-div-mul) (spread _ _ _ _ _ _ _ _)
+    ∙ simp (byte-group, low-group, high-group, div-div-eq-div-mul) (spread _ _ _ _ _ _ _ _)
+
+-- ---- the groups of a list of bytes, as many or fewer
+
+pub groups-of : (j : ℕ) {bs : List ℕ} → Below 256 bs → length bs ≤ j
+    → ofDigits 128 (map (λ b. b % 128) (digits 256 j (ofDigits 256 bs))) ≡ ofDigits 128 (map (λ b. b % 128) bs)
+unfolding ofDigits digits
+groups-of zero all-none l = refl
+groups-of (suc j) all-none l = rw (groups-of j all-none zero-le)
+groups-of zero (all-more h r) l = absurd (omega arith)
+groups-of (suc j) (all-more {x = b} {xs = bs} h r) l =
+    let X : ℕ = ofDigits 256 bs in
+    let low : (b + 256 * X) % 256 ≡ b = omega arith in
+    let rest : (b + 256 * X) / 256 ≡ X = omega arith in
+    rw (low, rest, groups-of j r (omega arith))

@@ -1,10 +1,10 @@
--- Reading a varint out of a word, the eight bytes that it begins with. The bytes below 128, of which the first is the varint's last, have a bit set in `marks`, so
--- the zeros below its lowest bit tell the place; the groups up to there are digits in base 128. Shown over the list of the bytes, by induction.
+-- The first byte below 128 in a list of bytes, where a varint ends, by the walk to the end and by bits: the bytes below 128 have a bit set in `marks`, so the zeros
+-- below its lowest bit tell the place. By induction on the list.
 use mathlib.Core.Path.{_≡_, refl, sym, ap, ap₂, _∙_}
 use mathlib.Core.Logic.{_⊎_, inl, inr}
-use mathlib.Core.List.{List, [], _∷_, _++_, map}
-use Prim.Native.Nat.{ℕ, zero, suc, _+_, _-_, _*_, _/_, _%_, _^_, _≤_, _<_, zero-le}
-use native.Mathlib.Nat.{zero-add, add-zero, suc-add, zero-lt-suc, mul-one, mul-assoc, pow-suc, div-div-eq-div-mul}
+use mathlib.Core.List.{List, [], _∷_, _++_}
+use Prim.Native.Nat.{ℕ, zero, suc, _+_, _-_, _*_, _/_, _%_, _^_, _≤_, _<_}
+use native.Mathlib.Nat.{zero-add, add-zero, suc-add, zero-lt-suc, mul-one, mul-assoc, pow-suc}
 use native.Mathlib.Decide.{decLt}
 use native.Mathlib.Omega.{arith}
 use lib.Bits.{bitAnd, and-block, and-high, shifted-half, shifted-even}
@@ -13,11 +13,10 @@ use lib.ListN.{length, getD}
 use lib.Pow.{pow-add}
 use borrow.Author.Tests.{lt-ltb, le-ltb}
 use Rattle.format.specs.Outcome.{ok}
-use Rattle.format.specs.Digits.{ofDigits, digits}
+use Rattle.format.specs.Digits.{ofDigits}
 use Rattle.format.specs.Varint.{uvarintEnd}
 use Rattle.format.proofs.numbers.All.{All, all-none, all-more, Below}
 use Rattle.format.proofs.numbers.Digits.{ofDigits-lt}
-use Rattle.varint.specs.Reading.{groups8}
 
 -- ---- the first byte that ends a varint
 
@@ -139,35 +138,3 @@ marks-some {bs} {n} r e = omega (arith, (rw e at (marks-zeros r)), trailing-of-z
 -- and it is one of the bytes
 pub stop-inside : {bs : List ℕ} {n : ℕ} → Stop bs n → n < length bs
 stop-inside {bs} {n} r = omega (arith, marks-zeros r, trailing-le (length bs * 8) (marks bs))
-
--- ---- the groups
-
-groups-of : (j : ℕ) {bs : List ℕ} → Below 256 bs → length bs ≤ j
-    → ofDigits 128 (map (λ b. b % 128) (digits 256 j (ofDigits 256 bs))) ≡ ofDigits 128 (map (λ b. b % 128) bs)
-unfolding ofDigits digits
-groups-of zero all-none l = refl
-groups-of (suc j) all-none l = rw (groups-of j all-none zero-le)
-groups-of zero (all-more h r) l = absurd (omega arith)
-groups-of (suc j) (all-more {x = b} {xs = bs} h r) l =
-    let X : ℕ = ofDigits 256 bs in
-    let low : (b + 256 * X) % 256 ≡ b = omega arith in
-    let rest : (b + 256 * X) / 256 ≡ X = omega arith in
-    rw (low, rest, groups-of j r (omega arith))
-
--- eight groups, as a sum
-nested : (a b c d e f g h : ℕ)
-    → a + b * 128 + c * 16384 + d * 2097152 + e * 268435456 + f * 34359738368 + g * 4398046511104 + h * 562949953421312
-    ≡ ofDigits 128 (a ∷ b ∷ c ∷ d ∷ e ∷ f ∷ g ∷ h ∷ [])
-unfolding ofDigits
-nested a b c d e f g h = omega arith
-
-seven : (x : ℕ) → x % 256 % 128 ≡ x % 128
-seven x = omega arith
-
-eight : (x : ℕ) → groups8 x ≡ ofDigits 128 (map (λ b. b % 128) (digits 256 8 x))
-unfolding digits
-eight x = simp (seven, div-div-eq-div-mul) (nested _ _ _ _ _ _ _ _)
-
--- of eight bytes or fewer
-pub groups-word : {bs : List ℕ} → Below 256 bs → length bs ≤ 8 → groups8 (ofDigits 256 bs) ≡ ofDigits 128 (map (λ b. b % 128) bs)
-groups-word {bs} h l = eight (ofDigits 256 bs) ∙ groups-of 8 h l

@@ -1,9 +1,10 @@
--- What private functions say of a varint that is read in parts: what is known after its first bytes, and the groups of eight bytes as a sum. The public
+-- What private functions say of a varint that is read in parts: what is known after its first bytes, and the groups of eight bytes. The public
 -- contracts cite none of this.
 use mathlib.Core.Path.{_≡_}
-use mathlib.Core.List.{List}
-use Prim.Native.Nat.{ℕ, _+_, _-_, _*_, _/_, _%_, _≤_, _<_}
+use mathlib.Core.List.{List, map}
+use Prim.Native.Nat.{ℕ, _+_, _-_, _*_, _%_, _≤_, _<_}
 use lib.ListN.{length, drop}
+use Rattle.format.specs.Digits.{ofDigits, digits}
 use Rattle.format.specs.Varint.{uvarintEnd, uvarintValue}
 
 -- The bytes from `at` to `pos` are passed, and none of them is the last; `left` more may come. They are worth `value`, and the next counts 2 ^ shift.
@@ -18,8 +19,4 @@ pub record Reading (s : List ℕ) (at value pos shift : ℕ) : Type 0 where
 
 -- the seven low bits of each of the eight bytes of x, one group after the other
 abbrev pub groups8 : ℕ → ℕ
-groups8 x =
-    x % 128 + x / 256 % 128 * 128 + x / 65536 % 128 * 16384 + x / 16777216 % 128 * 2097152 + x / 4294967296 % 128 * 268435456
-    + x / 1099511627776 % 128 * 34359738368
-    + x / 281474976710656 % 128 * 4398046511104
-    + x / 72057594037927936 % 128 * 562949953421312
+groups8 x = ofDigits 128 (map (λ b. b % 128) (digits 256 8 x))
