@@ -3,6 +3,6 @@
 fn main() {
     let folder = format!("{}/library", std::env::var("CARGO_MANIFEST_DIR").unwrap());
     println!("cargo:rustc-link-search=native={folder}");
-    println!("cargo:rustc-link-lib=static=c_api");
-    println!("cargo:rerun-if-changed={folder}/libc_api.a");
+    println!("cargo:rustc-link-lib=static=bench");
+    println!("cargo:rerun-if-changed={folder}/libbench.a");
 }

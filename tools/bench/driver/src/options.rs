@@ -20,7 +20,7 @@ impl Options {
                 "--markdown" => options.markdown = true,
                 _ => {
                     return Err(format!(
-                        "there is no option {argument}; the options are --count N, --rounds N and --markdown."
+                        "there is no option {argument}; the options are --count VALUES, --rounds ROUNDS and --markdown."
                     ))
                 }
             }

@@ -1,5 +1,5 @@
-//! Our exported functions, as crates/c_api/src/lib.rt says that C sees them: a slice is a pointer and a count. They ask
-//! nothing of their arguments, and a Rust slice is what they take a slice for, so these wrappers are safe.
+//! The functions that crates/bench exports, in which a slice is a pointer and a count of elements. These wrappers are safe: no
+//! function has a `requires`, and what the proofs take for granted of a slice holds of a Rust slice.
 
 #[repr(C)]
 #[derive(Debug, PartialEq)]
@@ -15,8 +15,8 @@ pub fn accepted(count: usize) -> Answer {
 }
 
 extern "C" {
-    fn warpboulder_pack(values: *const u64, values_len: usize, width: u32, out: *mut u8, out_len: usize) -> Answer;
-    fn warpboulder_unpack(
+    fn bench_pack(values: *const u64, values_len: usize, width: u32, out: *mut u8, out_len: usize) -> Answer;
+    fn bench_unpack(
         bytes: *const u8,
         bytes_len: usize,
         width: u32,
@@ -24,22 +24,22 @@ extern "C" {
         out: *mut u64,
         out_len: usize,
     ) -> Answer;
-    fn warpboulder_read_uvarints(bytes: *const u8, bytes_len: usize, out: *mut u64, out_len: usize) -> usize;
-    fn warpboulder_write_uvarints(values: *const u64, values_len: usize, out: *mut u8, out_len: usize) -> usize;
+    fn bench_read_uvarints(bytes: *const u8, bytes_len: usize, out: *mut u64, out_len: usize) -> usize;
+    fn bench_write_uvarints(values: *const u64, values_len: usize, out: *mut u8, out_len: usize) -> usize;
 }
 
 pub fn pack(values: &[u64], width: u32, out: &mut [u8]) -> Answer {
-    unsafe { warpboulder_pack(values.as_ptr(), values.len(), width, out.as_mut_ptr(), out.len()) }
+    unsafe { bench_pack(values.as_ptr(), values.len(), width, out.as_mut_ptr(), out.len()) }
 }
 
 pub fn unpack(bytes: &[u8], width: u32, count: usize, out: &mut [u64]) -> Answer {
-    unsafe { warpboulder_unpack(bytes.as_ptr(), bytes.len(), width, count, out.as_mut_ptr(), out.len()) }
+    unsafe { bench_unpack(bytes.as_ptr(), bytes.len(), width, count, out.as_mut_ptr(), out.len()) }
 }
 
 pub fn read_uvarints(bytes: &[u8], out: &mut [u64]) -> usize {
-    unsafe { warpboulder_read_uvarints(bytes.as_ptr(), bytes.len(), out.as_mut_ptr(), out.len()) }
+    unsafe { bench_read_uvarints(bytes.as_ptr(), bytes.len(), out.as_mut_ptr(), out.len()) }
 }
 
 pub fn write_uvarints(values: &[u64], out: &mut [u8]) -> usize {
-    unsafe { warpboulder_write_uvarints(values.as_ptr(), values.len(), out.as_mut_ptr(), out.len()) }
+    unsafe { bench_write_uvarints(values.as_ptr(), values.len(), out.as_mut_ptr(), out.len()) }
 }

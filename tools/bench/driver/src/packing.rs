@@ -2,7 +2,7 @@
 
 use crate::options::Options;
 use crate::table::Row;
-use crate::timing::{once, race};
+use crate::timing::{alternate, once};
 use crate::{inputs, ours};
 use basalt_encoding::bitpack;
 use std::hint::black_box;
@@ -30,7 +30,7 @@ pub fn pack_row(width: u32, options: &Options) -> Row {
     let mut out = vec![OLD; bytes.len() + SPARE];
     assert_eq!(ours::pack(&values, width, &mut out), ours::accepted(bytes.len()));
     assert!(out[..bytes.len()] == bytes && out[bytes.len()..] == [OLD; SPARE]);
-    let times = race(
+    let times = alternate(
         options.rounds,
         options.count,
         || {
@@ -54,7 +54,7 @@ pub fn unpack_row(width: u32, options: &Options) -> Row {
     let mut out = vec![u64::from(OLD); options.count + SPARE];
     assert_eq!(ours::unpack(&bytes, width, options.count, &mut out), ours::accepted(options.count));
     assert!(out[..options.count] == values && out[options.count..] == [u64::from(OLD); SPARE]);
-    let times = race(
+    let times = alternate(
         options.rounds,
         options.count,
         || {

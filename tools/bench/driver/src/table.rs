@@ -11,8 +11,9 @@ pub struct Row {
 }
 
 impl Row {
+    /// How many times as fast as the original ours is, to the two digits that are printed.
     fn ratio(&self) -> f64 {
-        self.times.original / self.times.ours
+        (100.0 * self.times.original / self.times.ours).round() / 100.0
     }
 
     pub fn missed(&self) -> bool {

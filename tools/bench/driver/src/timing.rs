@@ -16,7 +16,7 @@ impl Times {
 }
 
 /// Runs both sides in turn, so that whatever else the machine does meets both.
-pub fn race(rounds: usize, count: usize, mut original: impl FnMut(), mut ours: impl FnMut()) -> Times {
+pub fn alternate(rounds: usize, count: usize, mut original: impl FnMut(), mut ours: impl FnMut()) -> Times {
     let mut best = Times { original: f64::MAX, ours: f64::MAX };
     for _ in 0..rounds {
         best.keep_best(&Times { original: once(count, &mut original), ours: once(count, &mut ours) });

@@ -4,7 +4,7 @@ use crate::inputs::Mix;
 use crate::options::Options;
 use crate::ours;
 use crate::table::Row;
-use crate::timing::race;
+use crate::timing::alternate;
 use basalt_common::Result;
 use basalt_encoding::varint;
 use std::hint::black_box;
@@ -27,7 +27,7 @@ pub enum Reading {
     Called,
 }
 
-/// The loop of our `warpboulder_read_uvarints`.
+/// The loop of our `bench_read_uvarints`.
 #[inline(always)]
 fn original_row(bytes: &[u8], out: &mut [u64], read: impl Fn(&[u8], &mut usize) -> Result<u64>) -> usize {
     let mut pos = 0;
@@ -53,7 +53,7 @@ fn original_called(bytes: &[u8], out: &mut [u64]) -> usize {
     original_row(bytes, out, read)
 }
 
-/// The loop of our `warpboulder_write_uvarints`. The original appends to a Vec that is emptied and keeps its room.
+/// The loop of our `bench_write_uvarints`. The original appends to a Vec that is emptied and keeps its room.
 #[inline(never)]
 fn original_write(values: &[u64], out: &mut Vec<u8>) {
     out.clear();
@@ -75,7 +75,7 @@ pub fn read_row(reading: Reading, mix: Mix, options: &Options) -> Row {
     assert_eq!(original_read(&bytes, &mut theirs), options.count);
     assert_eq!(ours::read_uvarints(&bytes, &mut out), options.count);
     assert!(theirs == values && out == values);
-    let times = race(
+    let times = alternate(
         options.rounds,
         options.count,
         || {
@@ -95,7 +95,7 @@ pub fn write_row(mix: Mix, options: &Options) -> Row {
     let mut out = vec![OLD; bytes.len() + SPARE];
     assert_eq!(ours::write_uvarints(&values, &mut out), bytes.len());
     assert!(out[..bytes.len()] == bytes && out[bytes.len()..] == [OLD; SPARE]);
-    let times = race(
+    let times = alternate(
         options.rounds,
         options.count,
         || {

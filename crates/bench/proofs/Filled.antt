@@ -1,12 +1,10 @@
 -- A loop that fills a lent slice from its front: what is stored so far and what is still to come are the whole row, and behind it stand the old contents.
 use mathlib.Core.Path.{_≡_, refl, sym, ap, ap₂, _∙_}
 use mathlib.Core.List.{List, [], _++_, append-assoc, append-nil}
-use Prim.Native.Nat.{ℕ, _+_, _-_, _≤_}
-use native.Mathlib.Nat.{le-of-eq}
+use Prim.Native.Nat.{ℕ, _+_, _≤_}
 use native.Mathlib.Omega.{arith}
 use lib.ListN.{length, take, drop, length-append, length-drop}
-use lib.Seq.{take-all, take-at, drop-at, drop-drop, drop-length}
-use borrow.Rule.Slice.PartMut.{putMid, post-is}
+use lib.Seq.{take-at, drop-at, drop-drop}
 use Rattle.format.specs.Answers.{stored}
 
 -- `at` elements of the row are stored over old, which makes out, and the rest is to come
@@ -50,11 +48,3 @@ more {row} {old} {out} {at} {rest} new later {n} {next} f e en h en' =
       held = held;
       whole = f .whole ∙ ap (λ (l : List ℕ). f .done ++ l) e ∙ sym (append-assoc (f .done) new later);
     }
-
--- ---- a part lent as `&mut out[at..]`, as the borrow checker states it: what is lent, and the whole once it is back
-
-pub part-rest : (at : ℕ) (l : List ℕ) → take (length l - at) (drop at l) ≡ drop at l
-part-rest at l = take-all (length l - at) (drop at l) (le-of-eq (length-drop at l))
-
-pub part-back : (at : ℕ) (l ys : List ℕ) → at ≤ length l → putMid at (length l - at) l ys ≡ take at l ++ ys
-part-back at l ys h = ap (λ (r : List ℕ). take at l ++ (ys ++ r)) (post-is at (length l) l h ∙ drop-length l) ∙ ap (λ (r : List ℕ). take at l ++ r) (append-nil ys)

@@ -1,15 +1,16 @@
--- `warpboulder_write_uvarints` meets its contract: the bytes stored, then those of the row of the values left, are the whole row.
+-- `bench_write_uvarints` meets its contract: the bytes stored, then those of the row of the values left, are the whole row.
 use mathlib.Core.Path.{_∙_}
 use Prim.Native.Nat.{_-_}
 use native.Mathlib.Nat.{sub-zero}
 use native.Mathlib.Omega.{arith}
 use lib.ListN.{length, drop}
 use borrow.Author.Needs.{needs}
-use Rattle.c_api.specs.Rows.{rowBytes}
-use Rattle.c_api.proofs.Filled.{Filled, none, all, part-rest, part-back}
-use Rattle.c_api.proofs.Rows.{row-written, row-refused, row-end}
-use Rattle.c_api.proofs.warpboulder_write_uvarints.Statement.{statement}
-use Rattle.c_api.proofs.warpboulder_write_uvarints.Tie as tie
+use Rattle.bench.specs.Rows.{rowBytes}
+use Rattle.bitpack.proofs.Parts.{part-rest, part-back}
+use Rattle.bench.proofs.Filled.{Filled, none, all}
+use Rattle.bench.proofs.Rows.{row-written, row-refused, row-end}
+use Rattle.bench.proofs.bench_write_uvarints.Statement.{statement}
+use Rattle.bench.proofs.bench_write_uvarints.Tie as tie
 
 abbrev Inv-loop : tie.InvT-loop
 Inv-loop values out₀ at₀ i₀ i-end out at i = Filled (rowBytes values (length out₀)) out₀ out at (rowBytes (drop i values) (length out₀ - at))
@@ -78,8 +79,8 @@ same-length-2 c = search needs
 returns-2 : tie.Need-returns-2 Inv-loop μ-loop
 returns-2 c = all (c .before .loop .inv) (row-end _ (c .before .loop .i) _ (c .loop-test .left))
 
-pub warpboulder-write-uvarints-spec : {M : Type 1} → statement M
-warpboulder-write-uvarints-spec =
+pub bench-write-uvarints-spec : {M : Type 1} → statement M
+bench-write-uvarints-spec =
     tie.close
     (tie.spec
     Inv-loop

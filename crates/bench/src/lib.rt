@@ -1,21 +1,15 @@
-// The calls for programs in other languages: `rt staticlib c_api` writes target/staticlib/libc_api.a, which a C or Rust
-// program on x86-64 links. No function has a `requires`, so there is nothing that a caller must test first.
+// What tools/bench links, to time loops over the product's calls from inside one library: `rt staticlib bench` writes
+// target/staticlib/libbench.a. It is no interface for users; that will be a crate of its own. The two calls for varints in a
+// row store as many as they can and tell how many, but not why they stopped.
 //
-// How C sees them. A slice is two arguments in its place, a pointer and a count of elements: `&[u64]` is
-// `const uint64_t *, size_t`, `&mut [u8]` is `uint8_t *, size_t`. What the proofs take for granted of a slice, as of a Rust
-// slice, a caller in C has to see to: the pointer is not null and aligned, also where the count is 0; the elements are
-// initialised; and a `&mut` slice overlaps no other argument. `usize` is `size_t`. An enum does not cross, so an answer
-// is returned as a struct by value:
-//
-//     struct warpboulder_answer { uint32_t number; size_t offset; size_t count; };
-//     struct warpboulder_answer warpboulder_pack(const uint64_t *values, size_t values_len, uint32_t width,
-//                                                uint8_t *out, size_t out_len);
+// The driver passes a slice as two arguments, a pointer and a count of elements. An enum does not cross `extern "C"`, so an
+// answer is returned as a struct.
 ghost use mathlib.Core.Path.{_≡_};
 ghost use lib.ListN.{length};
 ghost use Rattle.format.specs.Answers.{stored};
 ghost use Rattle.format.specs.Standalone.{packAnswer, packOutput, unpackAnswer, unpackBuffer};
-ghost use Rattle.c_api.specs.Flat.{flat};
-ghost use Rattle.c_api.specs.Rows.{rowValues, rowBytes};
+ghost use Rattle.bench.specs.Flat.{flat};
+ghost use Rattle.bench.specs.Rows.{rowValues, rowBytes};
 use format::Answer;
 use format::UvarintAnswer;
 
@@ -47,7 +41,7 @@ fn flat_answer(answer: Answer) -> FlatAnswer
 
 // Packs `values` at `width` bits each to the front of `out`.
 #[no_mangle]
-pub extern "C" fn warpboulder_pack(values: &[u64], width: u32, out: &mut [u8]) -> FlatAnswer
+pub extern "C" fn bench_pack(values: &[u64], width: u32, out: &mut [u8]) -> FlatAnswer
     ensures { λ r. ⌜ (r ≡ flat (packAnswer (now (values .entry)) width (length (now (out .entry)))))
         × (now (out .exit) ≡ packOutput (now (values .entry)) width (now (out .entry))) ⌝ }
 {
@@ -56,7 +50,7 @@ pub extern "C" fn warpboulder_pack(values: &[u64], width: u32, out: &mut [u8]) -
 
 // Unpacks `count` values of `width` bits from `bytes` to the front of `out`.
 #[no_mangle]
-pub extern "C" fn warpboulder_unpack(
+pub extern "C" fn bench_unpack(
     bytes: &[u8],
     width: u32,
     count: usize,
@@ -70,7 +64,7 @@ pub extern "C" fn warpboulder_unpack(
 
 // Reads varints in a row from the front of `bytes` to the front of `out`, until it is full or one is refused. Returns how many.
 #[no_mangle]
-pub extern "C" fn warpboulder_read_uvarints(bytes: &[u8], out: &mut [u64]) -> usize
+pub extern "C" fn bench_read_uvarints(bytes: &[u8], out: &mut [u64]) -> usize
     ensures { λ r. ⌜ (r ≡ length (rowValues (now (bytes .entry)) 0 (length (now (out .entry)))))
         × (now (out .exit) ≡ stored (rowValues (now (bytes .entry)) 0 (length (now (out .entry)))) (now (out .entry))) ⌝ }
 {
@@ -91,7 +85,7 @@ pub extern "C" fn warpboulder_read_uvarints(bytes: &[u8], out: &mut [u64]) -> us
 // Writes the varints of `values` in a row to the front of `out`, until all are written or one does not fit. Returns how many
 // bytes.
 #[no_mangle]
-pub extern "C" fn warpboulder_write_uvarints(values: &[u64], out: &mut [u8]) -> usize
+pub extern "C" fn bench_write_uvarints(values: &[u64], out: &mut [u8]) -> usize
     ensures { λ r. ⌜ (r ≡ length (rowBytes (now (values .entry)) (length (now (out .entry)))))
         × (now (out .exit) ≡ stored (rowBytes (now (values .entry)) (length (now (out .entry)))) (now (out .entry))) ⌝ }
 {

@@ -1,9 +1,9 @@
--- `warpboulder_pack` meets its contract: it hands on what `pack` answers and leaves.
+-- `bench_pack` meets its contract: it hands on what `pack` answers and leaves.
 use mathlib.Core.Path.{ap, _∙_}
 use borrow.Author.Needs.{needs}
-use Rattle.c_api.specs.Flat.{flat}
-use Rattle.c_api.proofs.warpboulder_pack.Statement.{statement}
-use Rattle.c_api.proofs.warpboulder_pack.Tie as tie
+use Rattle.bench.specs.Flat.{flat}
+use Rattle.bench.proofs.bench_pack.Statement.{statement}
+use Rattle.bench.proofs.bench_pack.Tie as tie
 
 pack-requires : tie.Need-pack-requires
 pack-requires c κs = search needs
@@ -19,5 +19,5 @@ returns c =
     let told = c .before .before .before .pack .ensures in
     (c .flat-answer .ensures ∙ ap flat (told .0), told .1)
 
-pub warpboulder-pack-spec : {M : Type 1} → statement M
-warpboulder-pack-spec = tie.close (tie.spec pack-requires flat-answer-requires same-length returns)
+pub bench-pack-spec : {M : Type 1} → statement M
+bench-pack-spec = tie.close (tie.spec pack-requires flat-answer-requires same-length returns)

@@ -1,14 +1,14 @@
--- `warpboulder_read_uvarints` meets its contract: the values stored, then those of the row from `pos` on, are the whole row.
+-- `bench_read_uvarints` meets its contract: the values stored, then those of the row from `pos` on, are the whole row.
 use mathlib.Core.Path.{sym, _∙_}
 use Prim.Native.Nat.{_-_}
 use native.Mathlib.Nat.{sub-zero}
 use lib.ListN.{length}
 use borrow.Author.Needs.{needs}
-use Rattle.c_api.specs.Rows.{rowValues}
-use Rattle.c_api.proofs.Filled.{Filled, none, all}
-use Rattle.c_api.proofs.Rows.{row-stop, row-full, row-read}
-use Rattle.c_api.proofs.warpboulder_read_uvarints.Statement.{statement}
-use Rattle.c_api.proofs.warpboulder_read_uvarints.Tie as tie
+use Rattle.bench.specs.Rows.{rowValues}
+use Rattle.bench.proofs.Filled.{Filled, none, all}
+use Rattle.bench.proofs.Rows.{row-stop, row-full, row-read}
+use Rattle.bench.proofs.bench_read_uvarints.Statement.{statement}
+use Rattle.bench.proofs.bench_read_uvarints.Tie as tie
 
 abbrev Inv-loop : tie.InvT-loop
 Inv-loop bytes out₀ pos₀ i₀ out pos i = Filled (rowValues bytes 0 (length out₀)) out₀ out i (rowValues bytes pos (length out₀ - i))
@@ -59,8 +59,8 @@ same-length-2 c = search needs
 returns-2 : tie.Need-returns-2 Inv-loop μ-loop
 returns-2 c = all (c .before .loop .inv) (row-full _ _ _ (search needs))
 
-pub warpboulder-read-uvarints-spec : {M : Type 1} → statement M
-warpboulder-read-uvarints-spec =
+pub bench-read-uvarints-spec : {M : Type 1} → statement M
+bench-read-uvarints-spec =
     tie.close
     (tie.spec
     Inv-loop

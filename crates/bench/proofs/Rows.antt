@@ -18,20 +18,24 @@ use Rattle.format.specs.declared.Answer.the-variants.{Accepted, Refused}
 use Rattle.format.specs.declared.UvarintAnswer.the-variants.{Read, Malformed}
 use Rattle.format.proofs.codecs.Outcome.{both-passed, check-passed}
 use Rattle.format.proofs.numbers.Uvarints.{length-uvarintBytes}
-use Rattle.c_api.specs.Rows.{rowValues, rowBytes}
-use Rattle.c_api.proofs.Filled.{Filled, more}
+use Rattle.bench.specs.Rows.{rowValues, rowBytes}
+use Rattle.bench.proofs.Filled.{Filled, more}
+
+-- what follows from one variant being another
+zero-not-one {ℓ} : {C : Type ℓ} → _≡_ {A = ℕ} 0 1 → C
+zero-not-one z = absurd (omega arith)
 
 -- ---- reading
 
 read-step : (o : Outcome UvarintRead) (f : ℕ → List ℕ) {v next : ℕ} {u : Bool} → uvarintAnswerOf o ≡ Read v next u
     → valueOr [] (o >>= λ r. ok (r .value ∷ f (r .next))) ≡ v ∷ f next
 read-step (ok r) f e = cc
-read-step (refused number offset) f e = let z : _≡_ {A = ℕ} 0 1 = cc in absurd (omega arith)
+read-step (refused number offset) f e = zero-not-one (cc)
 
 read-stop : (o : Outcome UvarintRead) (f : UvarintRead → List ℕ) {number offset : ℕ} → uvarintAnswerOf o ≡ Malformed number offset
     → valueOr [] (o >>= λ r. ok (f r)) ≡ []
 read-stop (refused number offset) f e = refl
-read-stop (ok r) f e = let z : _≡_ {A = ℕ} 0 1 = cc in absurd (omega arith)
+read-stop (ok r) f e = zero-not-one (cc)
 
 module _ (s : List ℕ) (at : ℕ) where
   -- the row ends at a refusal,
@@ -60,11 +64,11 @@ module _ (s : List ℕ) (at : ℕ) where
 
 accepted {ℓ} : {C : Type ℓ} (o : Outcome (List ℕ)) {n : ℕ} → storedAnswer o ≡ Accepted n → ((bytes : List ℕ) → o ≡ ok bytes → length bytes ≡ n → C) → C
 accepted (ok bytes) e goal = goal bytes refl (cc)
-accepted (refused number offset) e goal = let z : _≡_ {A = ℕ} 0 1 = cc in absurd (omega arith)
+accepted (refused number offset) e goal = zero-not-one (cc)
 
-turned-down : (o : Outcome (List ℕ)) {number offset : ℕ} → storedAnswer o ≡ Refused number offset → o ≡ refused number offset
-turned-down (refused number offset) e = cc
-turned-down (ok bytes) e = let z : _≡_ {A = ℕ} 0 1 = cc in absurd (omega arith)
+not-accepted : (o : Outcome (List ℕ)) {number offset : ℕ} → storedAnswer o ≡ Refused number offset → o ≡ refused number offset
+not-accepted (refused number offset) e = cc
+not-accepted (ok bytes) e = zero-not-one (cc)
 
 -- what was written fits
 fits : (x space : ℕ) {bytes : List ℕ} → uvarintWriteOutcome x space ≡ ok bytes → length bytes ≤ space
@@ -106,7 +110,7 @@ module _ (values : List ℕ) (i : ℕ) {row old out : List ℕ} {at : ℕ} (f : 
   unfolding uvarintWriteAnswer uvarintWriteOutput
   row-refused {number} {offset} e =
       let x = getD values i 0 in
-      let o = turned-down (uvarintWriteOutcome x (length (drop at out))) (sym told ∙ e) in
+      let o = not-accepted (uvarintWriteOutcome x (length (drop at out))) (sym told ∙ e) in
       let q : uvarintWriteOutcome x (length old - at) ≡ refused number offset = ap (uvarintWriteOutcome x) (sym space-is) ∙ o in
       (row-is values i (length old - at) h ∙ rw q, back ∙ ap (λ (l : List ℕ). take at out ++ l) (left ∙ rw o) ∙ take-append-drop at out)
 

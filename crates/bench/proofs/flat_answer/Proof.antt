@@ -1,9 +1,9 @@
 -- `flat_answer` meets its contract: in each arm the answer is that variant.
 use mathlib.Core.Path.{ap, sym}
 use borrow.Author.Needs.{needs}
-use Rattle.c_api.specs.Flat.{flat}
-use Rattle.c_api.proofs.flat_answer.Statement.{statement}
-use Rattle.c_api.proofs.flat_answer.Tie as tie
+use Rattle.bench.specs.Flat.{flat}
+use Rattle.bench.proofs.flat_answer.Statement.{statement}
+use Rattle.bench.proofs.flat_answer.Tie as tie
 
 enum-known-answer : tie.Need-enum-known-answer
 enum-known-answer c = search needs

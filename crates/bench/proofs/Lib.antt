@@ -1,0 +1,3 @@
+-- The laws that the proofs of `bench` cite.
+pub mod Filled
+pub mod Rows

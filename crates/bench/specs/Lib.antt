@@ -1,0 +1,3 @@
+-- What the contracts of `bench` cite beside the definitions of `format`.
+pub mod Flat
+pub mod Rows
