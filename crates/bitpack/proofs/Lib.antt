@@ -4,3 +4,4 @@ pub mod Parts
 pub mod PackingLaws
 pub mod Packer
 pub mod Unpacker
+pub mod Calls

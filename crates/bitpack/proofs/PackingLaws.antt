@@ -16,7 +16,7 @@ use Rattle.format.proofs.numbers.Extremes.{mod-below}
 use Rattle.format.proofs.numbers.Packing.{unpacked-packed}
 use Rattle.format.proofs.numbers.Places.{pow-pow, pow-256, digits-add, ofDigits-drop}
 
--- ---- there and back
+-- ---- read back
 
 -- in the middle of any bytes: the values without their bits above the width
 pub unpacked-middle : (w : ℕ) (pre vs rest : List ℕ) → unpacked w (length vs) (drop (length pre) (pre ++ (packed w vs ++ rest))) ≡ map (λ v. v % 2 ^ w) vs

@@ -11,7 +11,7 @@ use lib.ListN.{length, drop, length-map}
 use lib.Seq.{slice, length-slice}
 use borrow.Author.Tests.{le-leb}
 use Rattle.format.specs.Outcome.{ok}
-use Rattle.format.specs.Keys.{Key, zigzag}
+use Rattle.format.specs.Keys.{Key, zigzag, unzigzag}
 use Rattle.format.specs.Answers.{stored}
 use Rattle.format.specs.Varint.{uvarintLen, uvarintBytes, varintLen, varintBytes, uvarintValue, UvarintRead, readUvarint}
 use Rattle.format.specs.Standalone.{uvarintAnswerOf, uvarintAnswer, varintAnswer, uvarintWriteOutcome, uvarintWriteOutput, varintWriteOutput}
@@ -22,6 +22,7 @@ use Rattle.format.proofs.numbers.Keys.{unzigzag-zigzag, zigzag-lt}
 use Rattle.format.proofs.numbers.Occurs.{occurs-middle}
 use Rattle.format.proofs.numbers.Uvarints.{length-uvarintBytes, readUvarint-back}
 use Rattle.format.proofs.numbers.Widths.{uvarintLen-least}
+use Rattle.number.proofs.ZigZag.{zigzag-unzigzag}
 use Rattle.varint.proofs.Answers.{read-range}
 use Rattle.varint.proofs.Reading.{signedOf, signed-answer}
 
@@ -73,3 +74,8 @@ pub written-shortest : (s : List ℕ) (at : ℕ) (v : UvarintRead) → readUvari
 written-shortest s at v e =
     let r = read-range s at v e in
     uvarintLen-least (v .value) (v .next - at) (omega (arith, r .0)) (rw (r .2) (value-lt s at (v .next) (r .1)))
+
+-- nor has a signed varint fewer than the key that it is read as
+pub signed-shortest : (s : List ℕ) (at : ℕ) (v : UvarintRead) → readUvarint s at ≡ ok v → varintLen (unzigzag (v .value)) ≤ v .next - at
+unfolding varintLen
+signed-shortest s at v e = rw (zigzag-unzigzag (v .value)) (written-shortest s at v e)

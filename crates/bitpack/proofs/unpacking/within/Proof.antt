@@ -1,4 +1,4 @@
--- q values of eight bytes each are q * w bytes; (len - 8) / w is the most of them with a word left.
+-- q groups of eight values are q * w bytes; (len - 8) / w is the most of them with a word left.
 use Prim.Native.Nat.{_-_, _/_}
 use native.Mathlib.Nat.{div-mul-le-self, mul-right-comm, mul-le-mul-right}
 use native.Mathlib.Omega.{arith}
