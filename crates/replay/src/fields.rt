@@ -1,4 +1,5 @@
-// The fields of a stored record. They are little-endian; what lies past a record's end reads as 0.
+// The fields of a stored record. They are little-endian; what lies past a record's end reads as 0, so each kind compares the
+// record's length first.
 ghost use Prim.Native.Nat.{_<_};
 use format::Answer;
 
@@ -20,6 +21,10 @@ fn wide(b: u8) -> u64
 
 pub(crate) fn u8_at(s: &[u8], at: usize) -> u64 {
     wide(byte_at(s, at, 0))
+}
+
+pub(crate) fn u16_at(s: &[u8], at: usize) -> u64 {
+    wide(byte_at(s, at, 0)) + wide(byte_at(s, at, 1)) * 256
 }
 
 pub(crate) fn u32_at(s: &[u8], at: usize) -> u32 {
@@ -74,6 +79,8 @@ pub(crate) fn after_header(file: &[u8]) -> usize {
 pub(crate) fn answer_is(answer: Answer, number: u64, offset: u64, count: u64) -> bool {
     match answer {
         Answer::Accepted(found) => number == 0 && found as u64 == count,
-        Answer::Refused(refusal, place) => refusal as u64 == number && place as u64 == offset,
+        Answer::Refused(refusal, place) => number != 0
+            && refusal as u64 == number
+            && place as u64 == offset,
     }
 }

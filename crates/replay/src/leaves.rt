@@ -8,6 +8,7 @@ use crate::fields::answer_is;
 use crate::fields::byte_at;
 use crate::fields::same_bytes;
 use crate::fields::u8_at;
+use crate::fields::u16_at;
 use crate::fields::u32_at;
 use crate::fields::u64_at;
 use crate::packing;
@@ -75,10 +76,10 @@ fn holds(kind: usize, record: &[u8]) -> bool {
 fn report(held: &[u64; KINDS]) {
     count(b"numbers: ", held[1]);
     count(b"varints read: ", held[2]);
-    count(b"values packed: ", held[3]);
-    count(b"values unpacked: ", held[4]);
+    count(b"packings: ", held[3]);
+    count(b"unpackings: ", held[4]);
     count(b"packed lengths: ", held[5]);
-    count(b"values packed and unpacked: ", held[6]);
+    count(b"packings of many values, and back: ", held[6]);
 }
 
 fn count(what: &[u8], n: u64) {
@@ -91,7 +92,8 @@ fn count(what: &[u8], n: u64) {
 fn number_holds(r: &[u8]) -> bool {
     let x = u64_at(r, 0);
     let v = number::of_bits(x);
-    u64_at(r, 8) == number::zigzag_encode(v)
+    r.len() == 47
+        && u64_at(r, 8) == number::zigzag_encode(v)
         && u64_at(r, 16) == number::bits_of(number::zigzag_decode(x))
         && u8_at(r, 24) == number::required_width(x) as u64
         && uvarint_holds(x, r)
@@ -122,7 +124,9 @@ fn reading_holds(r: &[u8]) -> bool {
         return false;
     }
     let place = u64_at(r, 0) as usize;
-    uvarint_read_holds(&r[44..], place, r) && varint_read_holds(&r[44..], place, r)
+    (r.len() - 44) as u64 == u16_at(r, 42)
+        && uvarint_read_holds(&r[44..], place, r)
+        && varint_read_holds(&r[44..], place, r)
 }
 
 fn uvarint_read_holds(s: &[u8], place: usize, r: &[u8]) -> bool {

@@ -2,7 +2,7 @@
 ghost use Prim.Native.Nat.{_<_};
 use crate::fields;
 
-// As many values as a record has at most.
+// More values than a record has.
 const VALUES: usize = 1024;
 
 const FNV_START: u64 = 14695981039346656037;

@@ -5,7 +5,7 @@ mod leaves;
 mod made;
 mod packing;
 
-// More bytes than a stored file has.
+// More bytes than leaves.bin has.
 const ROOM: usize = 131072;
 
 fn main() {

@@ -9,7 +9,7 @@ use crate::fields::u64_at;
 use crate::made;
 use format::Answer;
 
-// No record has more values, and these take no more bytes.
+// More values than a record has, and as many bytes as these take.
 const VALUES: usize = 1024;
 
 const BYTES: usize = 8192;
@@ -59,7 +59,8 @@ pub(crate) fn pack_holds(r: &[u8]) -> bool {
 
 fn packed_holds(answer: Answer, out: &[u8; BYTES], r: &[u8], at: usize) -> bool {
     let length = u32_at(r, at) as usize;
-    answer_is(answer, u8_at(r, 4), u64_at(r, 6), length as u64)
+    r.len() == std::num::wrapping_add_usize(at, 4 + length)
+        && answer_is(answer, u8_at(r, 4), u64_at(r, 6), length as u64)
         && same_bytes(out, 0, r, std::num::wrapping_add_usize(at, 4), length)
         && rest_is_old(out, length)
 }
@@ -82,8 +83,10 @@ pub(crate) fn unpack_holds(r: &[u8]) -> bool {
     let count = u32_at(r, 4) as usize;
     let answer = bitpack::unpack(&r[22..22 + length], u32_at(r, 0), count, &mut out);
     let values = values_at(r, 26 + length);
-    answer_is(answer, u8_at(r, 8), u64_at(r, 10), count as u64)
-        && front_is(&out, &values, u32_at(r, 22 + length) as usize)
+    let stored = u32_at(r, 22 + length) as usize;
+    r.len() == 26 + length + 8 * stored
+        && answer_is(answer, u8_at(r, 8), u64_at(r, 10), count as u64)
+        && front_is(&out, &values, stored)
 }
 
 // Are the first n of these values those, and the others as they were?
@@ -103,7 +106,7 @@ fn expected(value: u64, is_stored: bool) -> u64 {
 // Kind 5: a packed length.
 pub(crate) fn length_holds(r: &[u8]) -> bool {
     let answer = bitpack::packed_len(u32_at(r, 0) as usize, u32_at(r, 4));
-    answer_is(answer, 0, 0, u32_at(r, 8) as u64)
+    r.len() == 12 && answer_is(answer, 0, 0, u32_at(r, 8) as u64)
 }
 
 // Kind 6: packing many values, then unpacking those bytes; both by their checksums.
@@ -113,7 +116,8 @@ pub(crate) fn many_hold(r: &[u8]) -> bool {
     let mut out = old_bytes();
     let answer = pack_front(&values, n, u32_at(r, 0), &mut out);
     let length = u32_at(r, 16) as usize;
-    answer_is(answer, 0, 0, length as u64)
+    r.len() == 36
+        && answer_is(answer, 0, 0, length as u64)
         && made::checksum(&out, length) == u64_at(r, 20)
         && rest_is_old(&out, length)
         && many_back(&out, n, r)

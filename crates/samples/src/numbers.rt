@@ -9,7 +9,7 @@ pub(crate) fn show() {
 }
 
 fn zigzags() {
-    text::line(b"ZigZag and back");
+    text::line(b"ZigZag and back (Protocol Buffers; document 01)");
     zigzag(0);
     zigzag(-1);
     zigzag(1);
@@ -37,7 +37,7 @@ fn zigzag(v: i64) {
 }
 
 fn widths() {
-    text::title(b"Widths");
+    text::title(b"Widths (document 01)");
     width(0);
     width(1);
     width(2);
@@ -55,7 +55,7 @@ fn width(x: u64) {
 }
 
 fn sums() {
-    text::title(b"Sums and differences modulo 2^64");
+    text::title(b"Sums and differences modulo 2^64, read as signed (document 01)");
     sum(2, 3);
     sum(i64::MAX, 1);
     sum(i64::MIN, -1);

@@ -12,7 +12,7 @@ pub(crate) fn show() {
 }
 
 fn lengths() {
-    text::title(b"Packed lengths of values at a width");
+    text::title(b"Packed lengths (document 01)");
     length(0, 64);
     length(1, 1);
     length(8, 1);
@@ -27,19 +27,21 @@ fn lengths() {
 
 fn length(count: usize, width: u32) {
     text::unsigned(count as u64);
-    at_width(width);
+    of_width(width);
     text::answer(bitpack::packed_len(count, width));
     text::line(b"");
 }
 
-fn at_width(width: u32) {
-    text::word(b" at ");
+fn of_width(width: u32) {
+    text::word(b" of width ");
     text::unsigned(width as u64);
     text::word(b":");
 }
 
 fn packed() {
-    text::title(b"Values packed at a width into bytes ee: the answer, then all bytes");
+    text::title(
+        b"Values packed into bytes ee, and all bytes then (0 to 7 of width 3: Parquet; refusals: document 01)",
+    );
     pack_into_4(&[0, 1, 2, 3, 4, 5, 6, 7], 3);
     pack_into_2(&[0, 1, 2, 3, 4, 5, 6, 7], 3);
     pack_into_2(&[9, 14], 3);
@@ -70,7 +72,7 @@ fn pack_into_9(values: &[u64], width: u32) {
 fn pack(values: &[u64], width: u32, out: &mut [u8]) {
     text::word(b"values");
     text::numbers(values);
-    at_width(width);
+    of_width(width);
     text::answer(bitpack::pack(values, width, out));
     text::word(b":");
     text::bytes(out, out.len());
@@ -78,7 +80,7 @@ fn pack(values: &[u64], width: u32, out: &mut [u8]) {
 }
 
 fn unpacked() {
-    text::title(b"Values unpacked into ten of 77: the answer, then all of them");
+    text::title(b"Values unpacked into ten of 77, and all of them then (document 01)");
     unpack(b"\x88\xc6\xfa", 3, 8);
     unpack(b"\x88\xc6\xfa\xff", 3, 7);
     unpack(b"\x88\xc6\xfa", 3, 9);
@@ -94,9 +96,10 @@ fn unpacked() {
 
 fn unpack(s: &[u8], width: u32, count: usize) {
     text::unsigned(count as u64);
-    text::word(b" of");
-    text::bytes(s, s.len());
-    at_width(width);
+    text::word(b" in");
+    text::input(s);
+    text::word(b",");
+    of_width(width);
     let mut out = [77u64; 10];
     text::answer(bitpack::unpack(s, width, count, &mut out));
     text::word(b":");
@@ -105,7 +108,7 @@ fn unpack(s: &[u8], width: u32, count: usize) {
 }
 
 fn parts() {
-    text::title(b"The same from a place of the bytes on, to a place of the ten on");
+    text::title(b"The same from a place of the bytes on, to a place of the ten on (document 01)");
     unpack_part(b"\x03\x03\x88\xc6\xfa\x00", 2, 3, 8, 1);
     unpack_part(b"\x03\x03\x88\xc6\xfa\x00", 2, 3, 8, 3);
     unpack_part(b"\x03\x03\x88\xc6", 2, 3, 8, 1);
@@ -118,10 +121,10 @@ fn unpack_part(s: &[u8], at: usize, width: u32, count: usize, from: usize) {
     text::unsigned(count as u64);
     text::word(b" at ");
     text::place(s, at);
-    text::word(b", to ");
+    text::word(b", to place ");
     text::unsigned(from as u64);
     text::word(b",");
-    at_width(width);
+    of_width(width);
     let mut out = [77u64; 10];
     text::answer(bitpack::unpack_part(s, at, width, count, &mut out, from));
     text::word(b":");

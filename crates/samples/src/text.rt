@@ -31,7 +31,7 @@ pub(crate) fn signed(v: i64) {
     }
 }
 
-// The first n bytes of s, or all if it has fewer: each as two digits, with a space before it.
+// The first n bytes of s, or all if it has fewer: each as two hex digits, with a space before it.
 pub(crate) fn bytes(s: &[u8], n: usize) {
     let mut i = 0;
     while i < s.len() {
@@ -49,7 +49,7 @@ fn byte(b: u8) {
 }
 
 // Each value with a space before it.
-pub(crate) fn numbers(values: &[u64]) {
+fn each(values: &[u64]) {
     let mut i = 0;
     while i < values.len() {
         word(b" ");
@@ -58,11 +58,28 @@ pub(crate) fn numbers(values: &[u64]) {
     }
 }
 
+pub(crate) fn numbers(values: &[u64]) {
+    if values.len() == 0 {
+        word(b" none");
+        return;
+    }
+    each(values);
+}
+
+// Some bytes that are read.
+pub(crate) fn input(s: &[u8]) {
+    if s.len() == 0 {
+        word(b" no bytes");
+    }
+    bytes(s, s.len());
+}
+
 // A place of some bytes.
 pub(crate) fn place(s: &[u8], at: usize) {
+    word(b"place ");
     unsigned(at as u64);
     word(b" of");
-    bytes(s, s.len());
+    input(s);
 }
 
 // A count, or a refusal's number and offset, with a space before it.
@@ -81,7 +98,7 @@ fn accepted(count: usize) {
 pub(crate) fn refusal(number: u32, offset: usize) {
     word(b" refused ");
     unsigned(number as u64);
-    word(b" at ");
+    word(b", offset ");
     unsigned(offset as u64);
 }
 

@@ -8,14 +8,14 @@ use format::VarintAnswer;
 pub(crate) fn show() {
     written();
     written_signed();
-    cramped();
+    written_short();
     read();
     read_signed();
     refused();
 }
 
 fn written() {
-    text::title(b"Varints: length, then what writing stores");
+    text::title(b"Varints: length, and the bytes written (Protocol Buffers; document 01)");
     write(0);
     write(1);
     write(127);
@@ -31,9 +31,9 @@ fn written() {
     write(u64::MAX);
 }
 
-// Writing into two bytes, which is one too few for 16384 and more.
-fn cramped() {
-    text::title(b"Varints written into two bytes ee: the answer, then both");
+// Writing into two bytes, which are too few for 16384 and more.
+fn written_short() {
+    text::title(b"Varints written into two bytes ee, and both then (document 01)");
     write_into_2(127);
     write_into_2(16383);
     write_into_2(16384);
@@ -61,7 +61,7 @@ fn write(x: u64) {
 }
 
 fn written_signed() {
-    text::title(b"Signed varints: length, then what writing stores");
+    text::title(b"Signed varints: length, and the bytes written (Protocol Buffers' sint64)");
     write_signed(0);
     write_signed(-1);
     write_signed(1);
@@ -82,7 +82,7 @@ fn write_signed(v: i64) {
 }
 
 fn read() {
-    text::title(b"Varints read: value, next place, whether padded");
+    text::title(b"Varints read (Protocol Buffers; document 01; fe ff .. 01 is -2 as an int64)");
     read_at(b"\x00", 0);
     read_at(b"\x96\x01", 0);
     read_at(b"\xac\x02", 0);
@@ -99,7 +99,7 @@ fn read() {
 }
 
 fn refused() {
-    text::title(b"Varints refused");
+    text::title(b"Varints refused (document 01; Protocol Buffers' tests refuse the same)");
     read_at(b"", 0);
     read_at(b"\xf0\xab", 0);
     read_at(b"\xf0\xab\xc9\x9a\xf8\xb2", 0);
@@ -136,7 +136,7 @@ fn ended(next: usize, is_unpadded: bool) {
 }
 
 fn read_signed() {
-    text::title(b"Signed varints read: value, next place, whether padded");
+    text::title(b"Signed varints read (Protocol Buffers' sint64)");
     read_signed_at(b"\x00", 0);
     read_signed_at(b"\x01", 0);
     read_signed_at(b"\x02", 0);

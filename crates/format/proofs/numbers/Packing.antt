@@ -55,7 +55,7 @@ pub length-packed : (w : ℕ) (ns : List ℕ) → length (packed w ns) ≡ packe
 unfolding packed
 length-packed w ns = length-digits 256 (packedLen (length ns) w) _
 
--- ---- there and back
+-- ---- read back
 
 -- the packed bytes have room for all the bits: 256 ^ L is a multiple of (2 ^ w) ^ n
 room : (n w : ℕ) → 256 ^ packedLen n w ≡ (2 ^ w) ^ n * 2 ^ (packedLen n w * 8 - n * w)

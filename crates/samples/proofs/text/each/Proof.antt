@@ -1,9 +1,9 @@
--- `text::numbers` is safe and ends.
+-- `text::each` is safe and ends.
 use lib.ListN.{length}
 use Prim.Native.Nat.{_-_}
 use borrow.Author.Needs.{needs}
-use Rattle.samples.proofs.text.numbers.Statement.{statement}
-use Rattle.samples.proofs.text.numbers.Tie as tie
+use Rattle.samples.proofs.text.each.Statement.{statement}
+use Rattle.samples.proofs.text.each.Tie as tie
 
 abbrev Inv-loop : tie.InvT-loop
 Inv-loop values i₀ t3 i = Unit {0}
@@ -11,6 +11,6 @@ Inv-loop values i₀ t3 i = Unit {0}
 abbrev μ-loop : tie.MeasureT-loop
 μ-loop values i₀ t3 i = length values - i
 
-pub numbers-spec : {M : Type 1} → statement M
-numbers-spec =
+pub each-spec : {M : Type 1} → statement M
+each-spec =
     tie.close (tie.spec Inv-loop μ-loop (λ c. tt) (λ c. search needs) (λ c κs. tt) (λ c. search needs) (λ c. search needs) (λ c κs. tt) (λ c. search needs) (λ c. search needs) (λ c. tt) (λ c. tt))
