@@ -5,3 +5,4 @@ pub mod PackingLaws
 pub mod Packer
 pub mod Unpacker
 pub mod Calls
+pub mod Blocks

@@ -2,7 +2,6 @@
 -- `set`; each law splits the list at the place.
 use mathlib.Core.Path.{_≡_, sym, ap, ap₂, _∙_}
 use Prim.Native.Nat.{ℕ, suc, _+_, _-_, _/_, _%_, _^_, _≤_, _<_}
-use native.Mathlib.Nat.{add-zero, add-suc, suc-add}
 use native.Mathlib.Numerals.{add-one}
 use native.Mathlib.Omega.{arith}
 use mathlib.Core.List.{List, [], _∷_, _++_}
@@ -11,6 +10,7 @@ use lib.Seq.{drop-cons, set-at, append-snoc, sets, sets-eq, take-at, drop-at, dr
 use Rattle.format.specs.Digits.{digits}
 use Rattle.format.proofs.numbers.Digits.{length-digits}
 use Rattle.format.proofs.numbers.Places.{digits-add}
+use Rattle.format.proofs.numbers.Stores.{sets-append}
 
 -- ---- a front over what was there
 
@@ -44,11 +44,6 @@ module _ (f l : List ℕ) (k : ℕ) (e : length f ≡ k) where
         ∙ ap (λ (i : ℕ). drop i l) en
 
 -- ---- the bytes of a number
-
-sets-append : (a b l : List ℕ) (i : ℕ) → sets l i (a ++ b) ≡ sets (sets l i a) (i + length a) b
-sets-append [] b l i = ap (λ (k : ℕ). sets l k b) (sym (add-zero i))
-sets-append (x ∷ a) b l i =
-    sets-append a b (set l i x) (suc i) ∙ ap (λ (k : ℕ). sets (sets (set l i x) (suc i) a) k b) (suc-add i (length a) ∙ sym (add-suc i (length a)))
 
 -- one byte more of x, from p on
 pub tail-step : (x j p : ℕ) (l : List ℕ) {y v : ℕ} {out : List ℕ} → out ≡ sets l p (digits 256 j x) → y ≡ x / 256 ^ j → v ≡ y % 256

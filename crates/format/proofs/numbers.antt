@@ -12,3 +12,4 @@ pub mod Order
 pub mod Columns
 pub mod Extremes
 pub mod Distinct
+pub mod Stores

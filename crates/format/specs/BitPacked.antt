@@ -1,7 +1,6 @@
 -- 3. BitPacked (01, "The chunk"): "width byte, packed ZigZags."
 use Prim.Native.Nat.{ℕ, _+_}
 use mathlib.Core.List.{List, _∷_, map}
-use mathlib.Core.Option.{Option}
 use lib.IntN.{ℤ}
 use lib.ListN.{getD}
 use Rattle.format.specs.Outcome.{Outcome, ok, _>>=_}
@@ -10,6 +9,7 @@ use Rattle.format.specs.Varint.{Extent}
 use Rattle.format.specs.Width.{width}
 use Rattle.format.specs.Packing.{packed, widthAt, packedEnd, packedValues}
 use Rattle.format.specs.Folds.{largest}
+use Rattle.format.specs.declared.Padded.{Padded}
 
 -- "Widths are those of the largest number packed": a width byte and the numbers packed at it
 unfoldable pub packedBody : List ℕ → List ℕ
@@ -20,7 +20,7 @@ unfoldable pub bitPackedBody : List ℤ → List ℕ
 bitPackedBody column = packedBody (map zigzag column)
 
 -- reading, from the body's start on
-unfoldable pub validateBitPacked : List ℕ → ℕ → ℕ → Option ℕ → Outcome Extent
+unfoldable pub validateBitPacked : List ℕ → ℕ → ℕ → Padded → Outcome Extent
 validateBitPacked s start count padded = do
   w ← widthAt s start
   end ← packedEnd s (start + 1) w count

@@ -2,7 +2,6 @@
 -- which values it gives.
 use Prim.Native.Nat.{ℕ}
 use mathlib.Core.List.{List, _++_}
-use mathlib.Core.Option.{Option}
 use lib.IntN.{ℤ}
 use lib.ListN.{length}
 use Rattle.format.specs.Outcome.{Outcome}
@@ -18,6 +17,7 @@ use Rattle.format.specs.Dictionary.{dictionaryBody, validateDictionary, 
 use Rattle.format.specs.Delta.{deltaBody, validateDelta, deltaValues}
 use Rattle.format.specs.declared.Encoding.{Encoding}
 use Rattle.format.specs.declared.Encoding.the-variants.{Plain, Varint, BitPacked, FrameOfReference, RunLength, Dictionary, DeltaBinaryPacked}
+use Rattle.format.specs.declared.Padded.{Padded}
 
 -- what writing a column stores after the header
 unfoldable pub bodyOf : Encoding → List ℤ → List ℕ
@@ -35,7 +35,7 @@ chunkOf encoding column = headerBytes (idOf encoding) (length column) ++ bodyOf 
 
 -- reading a body of `count` values that starts at `start` of the chunk s: where it ends, and the first padded varint. `padded` is the one that
 -- the header found
-unfoldable pub validateBody : Encoding → List ℕ → ℕ → ℕ → Option ℕ → Outcome Extent
+unfoldable pub validateBody : Encoding → List ℕ → ℕ → ℕ → Padded → Outcome Extent
 validateBody Plain s start count padded = validatePlain s start count padded
 validateBody Varint s start count padded = validateVarintBody s start count padded
 validateBody BitPacked s start count padded = validateBitPacked s start count padded

@@ -2,7 +2,6 @@
 -- varint, width byte, packed offsets. The last block may be shorter."
 use Prim.Native.Nat.{ℕ, zero, suc, _+_, _-_, _/_, _^_, min}
 use mathlib.Core.List.{List, [], _∷_, _++_, map}
-use mathlib.Core.Option.{Option}
 use lib.IntN.{ℤ, pos}
 use lib.ListN.{length, getD, take, drop}
 use Rattle.format.specs.Outcome.{Outcome, ok, check, _>>=_}
@@ -12,6 +11,7 @@ use Rattle.format.specs.Packing.{packedLen, widthAt, packedEnd, packedVa
 use Rattle.format.specs.Folds.{least, deltas}
 use Rattle.format.specs.Encodings.{within}
 use Rattle.format.specs.BitPacked.{packedBody}
+use Rattle.format.specs.declared.Padded.{Padded}
 
 -- "block size (written 128)"
 abbrev pub deltaBlockSize : ℕ
@@ -43,7 +43,7 @@ deltaBody (first ∷ rest) =
 
 -- A walk from `at` on: k blocks are still to come, with `left` deltas. "The packed body of a delta block begins in the middle of the chunk and is
 -- unpacked from there."
-unfoldable pub validateBlocks : List ℕ → ℕ → ℕ → ℕ → ℕ → Option ℕ → Outcome Extent
+unfoldable pub validateBlocks : List ℕ → ℕ → ℕ → ℕ → ℕ → Padded → Outcome Extent
 validateBlocks s size at zero left padded = ok (record { end = at; padded = padded })
 validateBlocks s size at (suc k) left padded = do
   low ← readUvarint s at
@@ -52,7 +52,7 @@ validateBlocks s size at (suc k) left padded = do
   validateBlocks s size end k (left - min left size) (firstPadded padded at (low .unpadded))
 
 -- reading, from the body's start on: "with count 0 nothing more"; "Block size 1 to 2^20? 19, just after."
-unfoldable pub validateDelta : List ℕ → ℕ → ℕ → Option ℕ → Outcome Extent
+unfoldable pub validateDelta : List ℕ → ℕ → ℕ → Padded → Outcome Extent
 validateDelta s start zero padded = ok (record { end = start; padded = padded })
 validateDelta s start (suc left) padded = do
   first ← readUvarint s start

@@ -3,7 +3,6 @@
 use Prim.Native.Nat.{ℕ, suc, _+_, _-_}
 use mathlib.Core.Bool.{Bool, true, cond, _&&_}
 use mathlib.Core.List.{List, [], _∷_, _++_, map}
-use mathlib.Core.Option.{Option}
 use lib.IntN.{ℤ, pos}
 use lib.Dec.{leb, ltb}
 use lib.Signed.{ltZ}
@@ -14,6 +13,7 @@ use Rattle.format.specs.Varint.{Extent, uvarintBytes, varintBytes, readU
 use Rattle.format.specs.Width.{width}
 use Rattle.format.specs.Packing.{packed, widthAt, packedEnd, packedValues}
 use Rattle.format.specs.Distinct.{distinct}
+use Rattle.format.specs.declared.Padded.{Padded}
 
 -- ---- writing
 
@@ -54,7 +54,7 @@ allBelow entries (c ∷ cs) = ltb c entries && allBelow entries cs
 
 -- Reading, from the body's start on. "Entries at most the bytes left? 17, just after." The entries are as many varints in a row.
 -- "Each code below entries? 18, the width byte's place."
-unfoldable pub validateDictionary : List ℕ → ℕ → ℕ → Option ℕ → Outcome Extent
+unfoldable pub validateDictionary : List ℕ → ℕ → ℕ → Padded → Outcome Extent
 validateDictionary s start count padded = do
   entries ← readUvarint s start
   _ ← check (leb (entries .value) (length s - entries .next)) 17 (entries .next)

@@ -2,12 +2,13 @@
 use Prim.Native.Nat.{ℕ, _+_}
 use mathlib.Core.Bool.{_&&_}
 use mathlib.Core.List.{List, _∷_}
-use mathlib.Core.Option.{Option, none}
 use lib.Dec.{leb, ltb, eqb}
 use lib.ListN.{length, getD}
 use Rattle.format.specs.Outcome.{Outcome, ok, check, _>>=_}
 use Rattle.format.specs.Varint.{uvarintLen, uvarintBytes, readUvarint, firstPadded}
 use Rattle.format.specs.Encodings.{within, maxChunkElements}
+use Rattle.format.specs.declared.Padded.{Padded}
+use Rattle.format.specs.declared.Padded.the-variants.{Nowhere}
 
 -- ---- writing
 
@@ -47,7 +48,7 @@ pub record Header : Type 0 where
   pub id : ℕ
   pub count : ℕ
   pub start : ℕ
-  pub padded : Option ℕ
+  pub padded : Padded
 
 -- "Then, both: version 1? 5, at 1." The count's varint. "Count at most 2^24? 8, at 2."
 unfoldable pub readHeader : Naming → List ℕ → Outcome Header
@@ -56,4 +57,4 @@ readHeader naming s = do
   _ ← check (eqb (getD s 1 0) 1) 5 1
   count ← readUvarint s 2
   _ ← check (leb (count .value) maxChunkElements) 8 2
-  ok (record { id = id; count = count .value; start = count .next; padded = firstPadded none 2 (count .unpadded) })
+  ok (record { id = id; count = count .value; start = count .next; padded = firstPadded Nowhere 2 (count .unpadded) })

@@ -18,6 +18,7 @@ pub mod Dictionary
 pub mod Delta
 pub mod Chunk
 pub mod Read
+pub mod Parts
 pub mod Write
 pub mod Standalone
 pub mod Statistics

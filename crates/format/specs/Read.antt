@@ -2,7 +2,6 @@
 use Prim.Native.Nat.{ℕ}
 use mathlib.Core.Bool.{Bool, true, false}
 use mathlib.Core.List.{List}
-use mathlib.Core.Option.{Option, none, some}
 use lib.IntN.{ℤ}
 use lib.Dec.{leb, eqb}
 use lib.ListN.{length}
@@ -13,6 +12,8 @@ use Rattle.format.specs.Answers.{answerOf, bufferAfter}
 use Rattle.format.specs.Header.{Naming, Header, readHeader}
 use Rattle.format.specs.Chunk.{validateBody, bodyValues}
 use Rattle.format.specs.declared.Answer.{Answer}
+use Rattle.format.specs.declared.Padded.{Padded}
+use Rattle.format.specs.declared.Padded.the-variants.{Nowhere, At}
 
 -- what the questions up to the body's end find: the header, and the body's extent
 pub record Validated : Type 0 where
@@ -27,9 +28,9 @@ validate naming s = do
   ok (record { header = h; body = b })
 
 -- "does every varint read end on a nonzero byte, or have one byte? 25, its start."
-abbrev pub noPadding : Option ℕ → Outcome (Unit {0})
-noPadding none = ok tt
-noPadding (some start) = refused 25 start
+abbrev pub noPadding : Padded → Outcome (Unit {0})
+noPadding Nowhere = ok tt
+noPadding (At start) = refused 25 start
 
 -- "Strict reading, named or not, puts after all but 20": 25, then "Does the chunk end with its body? 26, first byte over."
 unfoldable pub strictChecks : Bool → List ℕ → Extent → Outcome (Unit {0})

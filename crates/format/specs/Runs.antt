@@ -2,13 +2,13 @@
 use Prim.Native.Nat.{ℕ, zero, suc, _+_, _-_}
 use mathlib.Core.Bool.{cond}
 use mathlib.Core.List.{List, [], _∷_, _++_}
-use mathlib.Core.Option.{Option}
 use lib.IntN.{ℤ}
 use lib.Dec.{leb, eqb}
 use lib.ListN.{length, replicate}
 use Rattle.format.specs.Outcome.{Outcome, ok, check, _>>=_}
 use Rattle.format.specs.Keys.{eqZ, unzigzag}
 use Rattle.format.specs.Varint.{Extent, uvarintBytes, varintBytes, readUvarint, uvarintAt, firstPadded}
+use Rattle.format.specs.declared.Padded.{Padded}
 
 -- ---- writing
 
@@ -41,7 +41,7 @@ runBody column = uvarintBytes (length (runs column)) ++ runBytes (runs column)
 
 -- A walk from `at` on: `n` runs are still to come, and `left` values. "length at most what is left? 15; both just after that varint. Lengths sum to
 -- count? 16, at 0."
-unfoldable pub validateRuns : List ℕ → ℕ → ℕ → ℕ → Option ℕ → Outcome Extent
+unfoldable pub validateRuns : List ℕ → ℕ → ℕ → ℕ → Padded → Outcome Extent
 validateRuns s at zero left padded = do
   _ ← check (eqb left 0) 16 0
   ok (record { end = at; padded = padded })
@@ -52,7 +52,7 @@ validateRuns s at (suc n) left padded = do
   validateRuns s (times .next) n (left - times .value) (firstPadded (firstPadded padded at (key .unpadded)) (key .next) (times .unpadded))
 
 -- reading, from the body's start on: "Runs at most count? 14; .. both just after that varint."
-unfoldable pub validateRunLength : List ℕ → ℕ → ℕ → Option ℕ → Outcome Extent
+unfoldable pub validateRunLength : List ℕ → ℕ → ℕ → Padded → Outcome Extent
 validateRunLength s start count padded = do
   n ← readUvarint s start
   _ ← check (leb (n .value) count) 14 (n .next)

@@ -4,7 +4,6 @@
 use Prim.Native.Nat.{ℕ, zero, suc, _+_, _-_, _/_, _%_, _^_, max}
 use mathlib.Core.Bool.{Bool, true, false, cond, not, _||_}
 use mathlib.Core.List.{List, [], _∷_, map}
-use mathlib.Core.Option.{Option, none, some}
 use lib.IntN.{ℤ}
 use lib.Dec.{ltb, eqb}
 use lib.ListN.{getD, drop}
@@ -13,6 +12,8 @@ use Rattle.format.specs.Outcome.{Outcome, refused, ok, _>>=_, valueOr}
 use Rattle.format.specs.Digits.{ofDigits, digits}
 use Rattle.format.specs.Keys.{zigzag}
 use Rattle.format.specs.Width.{width}
+use Rattle.format.specs.declared.Padded.{Padded}
+use Rattle.format.specs.declared.Padded.the-variants.{Nowhere, At}
 
 -- ---- writing
 
@@ -74,16 +75,16 @@ uvarintAt s at = valueOr (record { value = 0; next = 0; unpadded = true }) (read
 
 pub record Extent : Type 0 where
   pub end : ℕ
-  pub padded : Option ℕ
+  pub padded : Padded
 
 -- the first padded varint, when the one at `at` is read too
-abbrev pub firstPadded : Option ℕ → ℕ → Bool → Option ℕ
-firstPadded (some first) at unpadded = some first
-firstPadded none at true = none
-firstPadded none at false = some at
+abbrev pub firstPadded : Padded → ℕ → Bool → Padded
+firstPadded (At first) at unpadded = At first
+firstPadded Nowhere at true = Nowhere
+firstPadded Nowhere at false = At at
 
 -- n varints in a row: a walk from `at` on
-unfoldable pub validateUvarints : List ℕ → ℕ → ℕ → Option ℕ → Outcome Extent
+unfoldable pub validateUvarints : List ℕ → ℕ → ℕ → Padded → Outcome Extent
 validateUvarints s at zero padded = ok (record { end = at; padded = padded })
 validateUvarints s at (suc n) padded = do
   v ← readUvarint s at

@@ -54,6 +54,30 @@ pub enum VarintAnswer {
     Malformed(u32, usize),
 }
 
+// The start of the first padded varint that was read so far, which strict reading asks for, if there is one.
+pub enum Padded {
+    Nowhere,
+    At(usize),
+}
+
+// The encoding with a number, or in a chunk's first byte; or refused.
+pub enum EncodingAnswer {
+    Known(Encoding),
+    Unknown(u32, usize),
+}
+
+// A header that was read: the count, the start of the body, the first padded varint; or refused.
+pub enum HeaderAnswer {
+    Found(usize, usize, Padded),
+    Malformed(u32, usize),
+}
+
+// A part of a chunk that was read: where it ends, the first padded varint up to there; or refused.
+pub enum ExtentAnswer {
+    Ends(usize, Padded),
+    Malformed(u32, usize),
+}
+
 // The fields of the Rust's `IntegerStats` but the distinct values, which are handed back as a part of the scratch.
 pub struct IntegerStats {
     pub count: usize,

@@ -2,7 +2,6 @@
 use mathlib.Core.Path.{_≡_}
 use Prim.Native.Nat.{ℕ, _+_}
 use mathlib.Core.List.{List, map}
-use mathlib.Core.Option.{Option}
 use lib.IntN.{ℤ}
 use lib.ListN.{length, length-map}
 use Rattle.format.specs.Outcome.{ok}
@@ -12,11 +11,12 @@ use Rattle.format.proofs.numbers.Columns.{below-zigzags, map-unzigzag}
 use Rattle.format.proofs.numbers.All.{All}
 use Rattle.format.proofs.numbers.Occurs.{Occurs}
 use Rattle.format.proofs.codecs.Packed.{body-width, body-byte, body-end, body-back}
+use Rattle.format.specs.declared.Padded.{Padded}
 
 module _ {s : List ℕ} {at : ℕ} {column : List ℤ} (ks : All Key column) where
   -- BitPacked: the end of a body that occurs at a place,
   pub bitPacked-validate :
-      Occurs s at (bitPackedBody column) → (padded : Option ℕ)
+      Occurs s at (bitPackedBody column) → (padded : Padded)
       → validateBitPacked s at (length column) padded ≡ ok (record { end = at + length (bitPackedBody column); padded = padded })
   unfolding validateBitPacked bitPackedBody
   bitPacked-validate o padded =

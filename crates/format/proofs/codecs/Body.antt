@@ -1,6 +1,5 @@
 -- Every encoding: a body that was written is read back, by the law of its encoding.
 use mathlib.Core.Path.{_≡_}
-use mathlib.Core.Option.{Option}
 use Prim.Native.Nat.{ℕ, _+_, _≤_}
 use mathlib.Core.List.{List}
 use lib.IntN.{ℤ}
@@ -20,11 +19,12 @@ use Rattle.format.proofs.codecs.Frame.{frame-validate, frame-back}
 use Rattle.format.proofs.codecs.RunLength.{runLength-validate, runLength-back}
 use Rattle.format.proofs.codecs.Dictionary.{dictionary-validate, dictionary-back}
 use Rattle.format.proofs.codecs.Delta.{delta-validate, delta-back}
+use Rattle.format.specs.declared.Padded.{Padded}
 
 module _ {s : List ℕ} {at : ℕ} {column : List ℤ} (ks : All Key column) (few : length column ≤ maxChunkElements) where
   -- a body that occurs at a place: its end,
   pub body-validate :
-      (e : Encoding) → Occurs s at (bodyOf e column) → (padded : Option ℕ)
+      (e : Encoding) → Occurs s at (bodyOf e column) → (padded : Padded)
       → validateBody e s at (length column) padded ≡ ok (record { end = at + length (bodyOf e column); padded = padded })
   unfolding bodyOf validateBody
   body-validate Plain h padded = plain-validate column h padded

@@ -2,7 +2,6 @@
 -- and the body are read where they occur (Header, Body); no varint that we write is padded, and the chunk ends with its body, so strict reading passes too.
 use mathlib.Core.Path.{_≡_, refl, sym, ap, _∙_}
 use mathlib.Core.Bool.{Bool, true, false}
-use mathlib.Core.Option.{none}
 use Prim.Native.Nat.{ℕ, _+_, _≤_}
 use native.Mathlib.Omega.{arith}
 use mathlib.Core.List.{List, [], _++_, append-assoc, append-nil}
@@ -25,12 +24,13 @@ use Rattle.format.proofs.codecs.Encodings.{encodingOf-id}
 use Rattle.format.proofs.numbers.Columns.{keys-all}
 use Rattle.format.proofs.numbers.Occurs.{Occurs, occurs-middle, occurs-at}
 use Rattle.format.proofs.codecs.Body.{body-validate, body-values}
+use Rattle.format.specs.declared.Padded.the-variants.{Nowhere}
 
 -- ---- the chunk, with whatever bytes after it
 
 -- what reading a column's chunk finds
 abbrev pub chunkWritten : Encoding → List ℤ → Validated
-chunkWritten e column = record { header = headerWritten (idOf e) (length column); body = record { end = length (chunkOf e column); padded = none } }
+chunkWritten e column = record { header = headerWritten (idOf e) (length column); body = record { end = length (chunkOf e column); padded = Nowhere } }
 
 module _ (e : Encoding) (column : List ℤ) (rest : List ℕ) where
   -- a chunk is a header and a body
@@ -56,7 +56,7 @@ module _ (e : Encoding) {naming : Naming} (column : List ℤ) (rest : List ℕ) 
         chunk-parts e column rest,
         readHeader-back e (length column) (bodyOf e column ++ rest) naming r few,
         encodingOf-id e,
-        body-validate (keys-all column ks) few e (chunk-body e column rest) none,
+        body-validate (keys-all column ks) few e (chunk-body e column rest) Nowhere,
         chunk-length e column rest,
       )
 
@@ -73,7 +73,7 @@ module _ (e : Encoding) {naming : Naming} (column : List ℤ) (rest : List ℕ) 
 -- ---- the chunk alone
 
 -- strict reading's own questions
-strict-chunk : (strict : Bool) (s : List ℕ) → strictChecks strict s (record { end = length s; padded = none }) ≡ ok tt
+strict-chunk : (strict : Bool) (s : List ℕ) → strictChecks strict s (record { end = length s; padded = Nowhere }) ≡ ok tt
 unfolding strictChecks
 strict-chunk true s = rw (eq-eqb (length s) (length s) refl)
 strict-chunk false s = refl

@@ -3,7 +3,6 @@
 -- size is at least 1 by question 19, hold one delta for each value after the first.
 use mathlib.Core.Path.{_≡_, refl, sym, ap}
 use mathlib.Core.Bool.{Bool, true, false, _&&_}
-use mathlib.Core.Option.{Option}
 use mathlib.Core.List.{List, [], _∷_}
 use Prim.Native.Nat.{ℕ, zero, suc, _+_, _-_, _*_, _^_, _≤_, min}
 use native.Mathlib.Nat.{suc-mul, zero-mul, div-add-mod', mod-lt}
@@ -32,6 +31,7 @@ use Rattle.format.specs.declared.Encoding.{Encoding}
 use Rattle.format.specs.declared.Encoding.the-variants.{Plain, Varint, BitPacked, FrameOfReference, RunLength, Dictionary, DeltaBinaryPacked}
 use Rattle.format.proofs.numbers.Digits.{length-digits}
 use Rattle.format.proofs.codecs.Outcome.{both-passed, check-passed}
+use Rattle.format.specs.declared.Padded.{Padded}
 
 -- ---- numbers read in a row
 
@@ -66,7 +66,7 @@ uvarint-again s at h = rw h
 
 -- n runs that were read give as many values as were left: each takes its length off, which is at most what is left by question 15, and by question 16 none is
 -- left at the end
-pub length-runValues : (s : List ℕ) (at n left : ℕ) (padded : Option ℕ) {e : Extent} → validateRuns s at n left padded ≡ ok e → length (runValues s at n) ≡ left
+pub length-runValues : (s : List ℕ) (at n left : ℕ) (padded : Padded) {e : Extent} → validateRuns s at n left padded ≡ ok e → length (runValues s at n) ≡ left
 unfolding validateRuns runValues
 length-runValues s at zero left padded h = both-passed (check (eqb left 0) 16 0) _ h λ _ none h₁. sym (eqb-true left 0 (check-passed (eqb left 0) 16 0 none))
 length-runValues s at (suc n) left padded h =
@@ -79,7 +79,7 @@ length-runValues s at (suc n) left padded h =
 
 -- a RunLength body that was read gives as many values as are counted
 pub runLength-count :
-    (s : List ℕ) (start count : ℕ) (padded : Option ℕ) {e : Extent} → validateRunLength s start count padded ≡ ok e
+    (s : List ℕ) (start count : ℕ) (padded : Padded) {e : Extent} → validateRunLength s start count padded ≡ ok e
     → length (runLengthValues s start) ≡ count
 unfolding validateRunLength runLengthValues
 runLength-count s start count padded h =
@@ -116,7 +116,7 @@ and-left false u h = h
 
 -- a DeltaBinaryPacked body that was read gives as many values as are counted
 pub delta-count :
-    (s : List ℕ) (start count : ℕ) (padded : Option ℕ) {e : Extent} → validateDelta s start count padded ≡ ok e
+    (s : List ℕ) (start count : ℕ) (padded : Padded) {e : Extent} → validateDelta s start count padded ≡ ok e
     → length (deltaValues s start count) ≡ count
 unfolding validateDelta deltaValues
 delta-count s start zero padded h = refl
@@ -132,7 +132,7 @@ delta-count s start (suc left) padded h =
 
 -- a body that was read gives as many values as are counted
 pub body-count :
-    (encoding : Encoding) (s : List ℕ) (start count : ℕ) (padded : Option ℕ) {e : Extent} → validateBody encoding s start count padded ≡ ok e
+    (encoding : Encoding) (s : List ℕ) (start count : ℕ) (padded : Padded) {e : Extent} → validateBody encoding s start count padded ≡ ok e
     → length (bodyValues encoding s start count) ≡ count
 unfolding validateBody bodyValues varintBodyValues bitPackedValues frameValues dictionaryValues
 body-count Plain s start count padded h = length-plainValues s start count

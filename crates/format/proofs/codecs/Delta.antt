@@ -1,7 +1,6 @@
 -- DeltaBinaryPacked: what was written is read back. One block is a varint and packed offsets; blocks in a row are taken by induction on their number; and the
 -- deltas, summed again, are the column.
 use mathlib.Core.Path.{_≡_, refl, sym, ap, ap₂, _∙_}
-use mathlib.Core.Option.{Option}
 use Prim.Native.Nat.{ℕ, zero, suc, _+_, _-_, _*_, _≤_, min}
 use native.Mathlib.Nat.{add-assoc, add-zero, min-comm}
 use native.Mathlib.Omega.{arith}
@@ -28,6 +27,7 @@ use Rattle.format.proofs.codecs.Counts.{blockCount-enough}
 use Rattle.format.proofs.codecs.Packed.{body-width, body-byte, body-end, body-back}
 use Rattle.format.proofs.numbers.Packing.{length-packed}
 use Rattle.format.proofs.numbers.Uvarints.{uvarintWritten, readUvarint-back, uvarintAt-back}
+use Rattle.format.specs.declared.Padded.{Padded}
 
 -- ---- one block that occurs at a place
 
@@ -107,7 +107,7 @@ fromLow s k left low w n =
 
 -- k blocks that occur at a place: their end,
 pub blocks-validate :
-    {s : List ℕ} {at : ℕ} {ds : List ℤ} (k : ℕ) (padded : Option ℕ) → All Key ds → Occurs s at (blocksBytes k ds)
+    {s : List ℕ} {at : ℕ} {ds : List ℤ} (k : ℕ) (padded : Padded) → All Key ds → Occurs s at (blocksBytes k ds)
     → validateBlocks s 128 at k (length ds) padded ≡ ok (record { end = at + length (blocksBytes k ds); padded = padded })
 unfolding validateBlocks blocksBytes
 blocks-validate {at} zero padded ks h = ap (λ (n : ℕ). ok (record { end = n; padded = padded })) (sym (add-zero at))
@@ -161,7 +161,7 @@ module _ {s : List ℕ} {at : ℕ} (first : ℤ) (rest : List ℤ) (h : Occurs s
 
 -- DeltaBinaryPacked: the end of a body that occurs at a place,
 pub delta-validate :
-    {s : List ℕ} {at : ℕ} {column : List ℤ} → All Key column → Occurs s at (deltaBody column) → (padded : Option ℕ)
+    {s : List ℕ} {at : ℕ} {column : List ℤ} → All Key column → Occurs s at (deltaBody column) → (padded : Padded)
     → validateDelta s at (length column) padded ≡ ok (record { end = at + length (deltaBody column); padded = padded })
 unfolding validateDelta deltaBody deltas varintBytes
 delta-validate {at} all-none h padded = ap (λ (n : ℕ). ok (record { end = n; padded = padded })) (sym (add-zero at))

@@ -2,7 +2,6 @@
 -- below the number of entries, so the codes fit their width and question 18 passes; and the entry of a value's code is the value.
 use mathlib.Core.Path.{_≡_, refl, sym, ap, ap₂, _∙_}
 use mathlib.Core.Bool.{true}
-use mathlib.Core.Option.{Option}
 use Prim.Native.Nat.{ℕ, suc, _+_, _-_, _^_, _≤_}
 use native.Mathlib.Nat.{lt-of-le-of-lt}
 use native.Mathlib.Omega.{arith}
@@ -26,6 +25,7 @@ use Rattle.format.proofs.numbers.Uvarints.{readUvarint-back, uvarintAt-
 use Rattle.format.proofs.numbers.UvarintRows.{uvarintsBytes, uvarintsBytes-room, firstPadded-unpadded, validateUvarints-back, uvarintValues-back, afterUvarints-back}
 use Rattle.format.proofs.codecs.Packed.{width-read, packed-end, packed-back}
 use Rattle.format.proofs.codecs.Codes.{Ranked, codeOf-lt, codeOf-is, distinct-ranked}
+use Rattle.format.specs.declared.Padded.{Padded}
 
 -- ---- entries as numbers
 
@@ -182,7 +182,7 @@ module _ {s : List ℕ} {at : ℕ} {entries column : List ℤ} (ks : All Key ent
 
   -- the end,
   validate-with :
-      (padded : Option ℕ) → validateDictionary s at (length column) padded ≡ ok (record { end = at + length (dictionaryBodyWith entries column); padded = padded })
+      (padded : Padded) → validateDictionary s at (length column) padded ≡ ok (record { end = at + length (dictionaryBodyWith entries column); padded = padded })
   unfolding validateDictionary
   validate-with padded =
       let n : ℕ = length entries in
@@ -227,7 +227,7 @@ module _ {s : List ℕ} {at : ℕ} {entries column : List ℤ} (ks : All Key ent
 module _ {s : List ℕ} {at : ℕ} {column : List ℤ} (ks : All Key column) (few : length column ≤ maxChunkElements) (o : Occurs s at (dictionaryBody column)) where
   -- Dictionary: the end of a body that occurs at a place,
   pub dictionary-validate :
-      (padded : Option ℕ) → validateDictionary s at (length column) padded ≡ ok (record { end = at + length (dictionaryBody column); padded = padded })
+      (padded : Padded) → validateDictionary s at (length column) padded ≡ ok (record { end = at + length (dictionaryBody column); padded = padded })
   unfolding dictionaryBody
   dictionary-validate padded = validate-with (distinct-keys ks) (distinct-ranked column) (omega (arith, length-distinct column)) o padded
 

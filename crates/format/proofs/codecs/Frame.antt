@@ -5,7 +5,6 @@ use Prim.Native.Nat.{ℕ, _+_, _≤_}
 use native.Mathlib.Nat.{add-assoc}
 use native.Mathlib.Omega.{arith}
 use mathlib.Core.List.{List, map}
-use mathlib.Core.Option.{Option}
 use lib.IntN.{ℤ}
 use lib.ListN.{length, length-append, length-map}
 use borrow.Author.Tests.{le-leb}
@@ -20,6 +19,7 @@ use Rattle.format.proofs.numbers.All.{All}
 use Rattle.format.proofs.numbers.Extremes.{least-key}
 use Rattle.format.proofs.numbers.Occurs.{Occurs, occurs-first, occurs-next, occurs-room, occurs-at}
 use Rattle.format.proofs.codecs.Packed.{body-byte, body-end, body-back}
+use Rattle.format.specs.declared.Padded.{Padded}
 
 module _ {s : List ℕ} {at : ℕ} (column : List ℤ) (o : Occurs s at (frameBody column)) where
   -- the least value's bytes, the packed differences after them, and the length of both
@@ -40,7 +40,7 @@ module _ {s : List ℕ} {at : ℕ} (column : List ℤ) (o : Occurs s at (frameBo
 module _ {s : List ℕ} {at : ℕ} {column : List ℤ} (ks : All Key column) where
   -- FrameOfReference: the end of a body that occurs at a place,
   pub frame-validate :
-      Occurs s at (frameBody column) → (padded : Option ℕ)
+      Occurs s at (frameBody column) → (padded : Padded)
       → validateFrame s at (length column) padded ≡ ok (record { end = at + length (frameBody column); padded = padded })
   unfolding validateFrame packedBody
   frame-validate o padded =

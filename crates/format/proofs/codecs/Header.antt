@@ -2,7 +2,6 @@
 -- question up to 8, and the count's varint occurs at 2.
 use mathlib.Core.Path.{_≡_, refl}
 use mathlib.Core.List.{List, _++_}
-use mathlib.Core.Option.{none}
 use Prim.Native.Nat.{ℕ, suc, _+_, _≤_}
 use native.Mathlib.Omega.{arith}
 use lib.ListN.{length}
@@ -15,6 +14,7 @@ use Rattle.format.specs.ThirdDemand.{NamedFor, unnamed-reading, named-re
 use Rattle.format.specs.declared.Encoding.{Encoding}
 use Rattle.format.proofs.numbers.Uvarints.{length-uvarintBytes, uvarintWritten, readUvarint-back}
 use Rattle.format.proofs.codecs.Encodings.{idOf-low, idOf-high}
+use Rattle.format.specs.declared.Padded.the-variants.{Nowhere}
 
 -- a header has its length
 pub length-headerBytes : (id count : ℕ) → length (headerBytes id count) ≡ headerLen count
@@ -23,7 +23,7 @@ length-headerBytes id count = omega (arith, length-uvarintBytes count)
 
 -- what a header of that id and count says
 abbrev pub headerWritten : ℕ → ℕ → Header
-headerWritten id count = record { id = id; count = count; start = headerLen count; padded = none }
+headerWritten id count = record { id = id; count = count; start = headerLen count; padded = Nowhere }
 
 module _ (id count : ℕ) (rest : List ℕ) (low : 1 ≤ id) (high : id ≤ 7) where
   -- the id is read, unnamed

@@ -1,7 +1,6 @@
 -- Plain: what was written is read back. Eight bytes a value: question 9 passes, and each key is read where its bytes occur.
 use mathlib.Core.Path.{_≡_, refl, ap, ap₂}
 use mathlib.Core.List.{List, _∷_}
-use mathlib.Core.Option.{Option}
 use Prim.Native.Nat.{ℕ, _+_, _-_, _*_}
 use native.Mathlib.Omega.{arith}
 use lib.IntN.{ℤ}
@@ -14,11 +13,12 @@ use Rattle.format.proofs.numbers.All.{All, all-none, all-more}
 use Rattle.format.proofs.numbers.Keys.{length-keyBytes, keyAt-back}
 use Rattle.format.proofs.numbers.Occurs.{Occurs, occurs-first, occurs-next, occurs-room, occurs-at}
 use Rattle.format.proofs.lengths.Parts.{length-plainBody}
+use Rattle.format.specs.declared.Padded.{Padded}
 
 module _ {s : List ℕ} where
   -- Plain: the end of a body that occurs at a place, for any column,
   pub plain-validate :
-      {at : ℕ} (column : List ℤ) → Occurs s at (plainBody column) → (padded : Option ℕ)
+      {at : ℕ} (column : List ℤ) → Occurs s at (plainBody column) → (padded : Padded)
       → validatePlain s at (length column) padded ≡ ok (record { end = at + length (plainBody column); padded = padded })
   unfolding validatePlain
   plain-validate {at} column o padded =

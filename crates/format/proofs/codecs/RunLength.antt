@@ -2,7 +2,6 @@
 -- than values: questions 14, 15 and 16 pass. Each run's two varints are read where they occur.
 use mathlib.Core.Path.{_≡_, refl, sym, ap, _∙_}
 use mathlib.Core.Bool.{Bool, true, false, cond}
-use mathlib.Core.Option.{Option}
 use Prim.Native.Nat.{ℕ, suc, _+_, _-_, _^_, _≤_, _<_}
 use native.Mathlib.Nat.{add-assoc, add-zero, le-refl}
 use native.Mathlib.Omega.{arith}
@@ -21,6 +20,7 @@ use Rattle.format.proofs.numbers.All.{All, all-none, all-more}
 use Rattle.format.proofs.numbers.Occurs.{Occurs, occurs-first, occurs-next, occurs-at}
 use Rattle.format.proofs.numbers.Uvarints.{readUvarint-back, uvarintAt-back}
 use Rattle.format.proofs.numbers.Order.{eqZ-true}
+use Rattle.format.specs.declared.Padded.{Padded}
 
 -- ---- the runs of a column
 
@@ -138,7 +138,7 @@ runs-fit {column} ks n = runs-small (keys-runs ks) (omega (arith, times-runs col
 
 -- runs that occur at a place: their end,
 pub runs-validate :
-    {s : List ℕ} {at : ℕ} {rs : List Run} (padded : Option ℕ) → All RunFits rs → Occurs s at (runBytes rs)
+    {s : List ℕ} {at : ℕ} {rs : List Run} (padded : Padded) → All RunFits rs → Occurs s at (runBytes rs)
     → validateRuns s at (length rs) (timesIn rs) padded ≡ ok (record { end = at + length (runBytes rs); padded = padded })
 unfolding validateRuns runBytes timesIn varintBytes
 runs-validate {at} padded all-none h = ap (λ (n : ℕ). ok (record { end = n; padded = padded })) (sym (add-zero at))
@@ -179,7 +179,7 @@ runs-back {s} {at} (all-more {x} {xs} f fs) h =
 module _ {s : List ℕ} {at : ℕ} {column : List ℤ} (ks : All Key column) (few : length column ≤ maxChunkElements) where
   -- RunLength: the end of a body that occurs at a place,
   pub runLength-validate :
-      Occurs s at (runBody column) → (padded : Option ℕ)
+      Occurs s at (runBody column) → (padded : Padded)
       → validateRunLength s at (length column) padded ≡ ok (record { end = at + length (runBody column); padded = padded })
   unfolding validateRunLength runBody
   runLength-validate h padded =

@@ -1,7 +1,6 @@
 -- Varint: what was written is read back. The body is the varints of the ZigZags in a row.
 use mathlib.Core.Path.{_≡_, refl, ap}
 use mathlib.Core.List.{List, [], _∷_, _++_, map}
-use mathlib.Core.Option.{Option}
 use Prim.Native.Nat.{ℕ, _+_}
 use lib.IntN.{ℤ}
 use lib.ListN.{length, length-map}
@@ -13,6 +12,7 @@ use Rattle.format.proofs.numbers.All.{All}
 use Rattle.format.proofs.numbers.Columns.{below-zigzags, map-unzigzag}
 use Rattle.format.proofs.numbers.Occurs.{Occurs, occurs-as}
 use Rattle.format.proofs.numbers.UvarintRows.{uvarintsBytes, validateUvarints-back, uvarintValues-back}
+use Rattle.format.specs.declared.Padded.{Padded}
 
 -- the body is varints in a row
 varintBody-is : (column : List ℤ) → varintBody column ≡ uvarintsBytes (map zigzag column)
@@ -22,7 +22,7 @@ varintBody-is (v ∷ vs) = ap (λ (l : List ℕ). uvarintBytes (zigzag v) ++ l) 
 
 module _ {s : List ℕ} {at : ℕ} {column : List ℤ} (ks : All Key column) (o : Occurs s at (varintBody column)) where
   -- Varint: the end of a body that occurs at a place,
-  pub varint-validate : (padded : Option ℕ) → validateVarintBody s at (length column) padded ≡ ok (record { end = at + length (varintBody column); padded = padded })
+  pub varint-validate : (padded : Padded) → validateVarintBody s at (length column) padded ≡ ok (record { end = at + length (varintBody column); padded = padded })
   unfolding validateVarintBody
   varint-validate padded =
       rw (varintBody-is column, ← length-map column zigzag) (validateUvarints-back padded (below-zigzags ks) (occurs-as (varintBody-is column) o))

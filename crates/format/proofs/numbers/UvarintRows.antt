@@ -3,7 +3,6 @@
 use mathlib.Core.Path.{_≡_, refl, sym, ap, _∙_}
 use mathlib.Core.Bool.{true}
 use mathlib.Core.List.{List, [], _∷_, _++_}
-use mathlib.Core.Option.{Option, none, some}
 use Prim.Native.Nat.{ℕ, _+_, _^_, _≤_}
 use native.Mathlib.Nat.{add-zero, add-assoc}
 use native.Mathlib.Omega.{arith}
@@ -13,6 +12,8 @@ use Rattle.format.specs.Varint.{uvarintBytes, UvarintRead, firstPadded, 
 use Rattle.format.proofs.numbers.All.{all-none, all-more, Below}
 use Rattle.format.proofs.numbers.Occurs.{Occurs, occurs-first, occurs-next}
 use Rattle.format.proofs.numbers.Uvarints.{uvarintBytes-some, readUvarint-back, uvarintAt-back}
+use Rattle.format.specs.declared.Padded.{Padded}
+use Rattle.format.specs.declared.Padded.the-variants.{Nowhere, At}
 
 -- numbers, each as a varint
 unfoldable pub uvarintsBytes : List ℕ → List ℕ
@@ -26,9 +27,9 @@ uvarintsBytes-room [] = omega arith
 uvarintsBytes-room (x ∷ xs) = simp length-append (omega (arith, uvarintBytes-some x, uvarintsBytes-room xs))
 
 -- a varint that was written is unpadded: it leaves the first padded one as it was
-pub firstPadded-unpadded : (padded : Option ℕ) (at : ℕ) → firstPadded padded at true ≡ padded
-firstPadded-unpadded none at = refl
-firstPadded-unpadded (some a) at = refl
+pub firstPadded-unpadded : (padded : Padded) (at : ℕ) → firstPadded padded at true ≡ padded
+firstPadded-unpadded Nowhere at = refl
+firstPadded-unpadded (At a) at = refl
 
 -- the place after the first of them and the others is the place after all
 after-first : (at x : ℕ) (xs : List ℕ) → at + length (uvarintBytes x) + length (uvarintsBytes xs) ≡ at + length (uvarintsBytes (x ∷ xs))
@@ -37,7 +38,7 @@ after-first at x xs = add-assoc at _ _ ∙ ap (λ (n : ℕ). at + n) (sym (lengt
 
 -- READ BACK: numbers below 2^64 that were written in a row pass, and end after the last; the first padded varint stays what it was
 pub validateUvarints-back :
-    {s : List ℕ} {at : ℕ} {xs : List ℕ} (padded : Option ℕ) → Below (2 ^ 64) xs → Occurs s at (uvarintsBytes xs)
+    {s : List ℕ} {at : ℕ} {xs : List ℕ} (padded : Padded) → Below (2 ^ 64) xs → Occurs s at (uvarintsBytes xs)
     → validateUvarints s at (length xs) padded ≡ ok (record { end = at + length (uvarintsBytes xs); padded = padded })
 unfolding uvarintsBytes validateUvarints
 validateUvarints-back {at} padded all-none o = ap (λ (n : ℕ). ok (record { end = n; padded = padded })) (sym (add-zero at))
