@@ -1,0 +1,5 @@
+pub mod Numbers
+pub mod Settling
+pub mod Placing
+pub mod Rows
+pub mod Headers

@@ -1,0 +1,12 @@
+-- The answer is taken apart, case by case.
+use mathlib.Core.Path.{sym, ap}
+use borrow.Author.Needs.{needs}
+use Rattle.codec.specs.Refusals.{extentRefusal}
+use Rattle.codec.proofs.body.malformed.Statement.{statement}
+use Rattle.codec.proofs.body.malformed.Tie as tie
+
+returns-2 : tie.Need-returns-2
+returns-2 c = ap extentRefusal (sym (c .before .answer .given .1))
+
+pub malformed-spec : {M : Type 1} → statement M
+malformed-spec = tie.close (tie.spec (λ c. search needs) (λ c. search needs) (λ c. search needs) returns-2)
