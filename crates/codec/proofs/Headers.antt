@@ -1,5 +1,5 @@
 -- The header's questions one after the other: where one is answered no, that is the answer; where all up to some question are answered yes, the next decides.
-use mathlib.Core.Path.{_≡_, refl, sym, ap, _∙_}
+use mathlib.Core.Path.{_≡_, refl}
 use mathlib.Core.Bool.{Bool, true, false, not}
 use mathlib.Core.List.{List}
 use Prim.Native.Nat.{ℕ, _<_, _≤_}
@@ -10,9 +10,9 @@ use borrow.Author.Tests.{le-leb, lt-leb, lt-ltb, le-ltb, eq-eqb, ne-eqb}
 use Rattle.format.specs.Outcome.{Outcome, refused, ok, check, _>>=_}
 use Rattle.format.specs.Encodings.{within, maxChunkElements}
 use Rattle.format.specs.Varint.{UvarintRead, readUvarint, firstPadded}
-use Rattle.format.specs.Header.{Header, unnamed, named, readId, readHeader}
+use Rattle.format.specs.Header.{Header, readId, readHeader}
 use Rattle.format.specs.Standalone.{uvarintAnswer}
-use Rattle.format.specs.Parts.{encodingAnswerOf, encodingAnswer, peekAnswer, headerAnswerOf, headerAnswer}
+use Rattle.format.specs.Parts.{encodingAnswer, peekAnswer, headerAnswerOf, headerAnswer}
 use Rattle.format.specs.declared.EncodingAnswer.the-variants.{Unknown}
 use Rattle.format.specs.declared.HeaderAnswer.the-variants.{Found, Malformed}
 use Rattle.format.specs.declared.Padded.the-variants.{Nowhere}

@@ -3,3 +3,5 @@ pub mod Settling
 pub mod Placing
 pub mod Rows
 pub mod Headers
+pub mod Writing
+pub mod Reading

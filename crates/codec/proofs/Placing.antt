@@ -8,7 +8,7 @@ use native.Mathlib.Nat.{add-zero}
 use native.Mathlib.Omega.{arith}
 use lib.IntN.{ℤ}
 use lib.Dec.{leb}
-use lib.ListN.{length, set, take, drop, take-append-drop, length-set, length-drop}
+use lib.ListN.{length, set, take, drop, take-append-drop, length-set}
 use lib.Seq.{sets, length-sets, sets-eq, drop-drop}
 use borrow.Rule.Slice.PartMut.{putMid}
 use borrow.Author.Tests.{le-leb, lt-leb, leb-true}

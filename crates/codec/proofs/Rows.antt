@@ -1,11 +1,11 @@
 -- A walk along varints that asks: what is left to be asked is the whole. A varint that is read takes the walk one on, and a refused one ends it.
-use mathlib.Core.Path.{_≡_, sym, ap, _∙_}
+use mathlib.Core.Path.{_≡_}
 use mathlib.Core.Bool.{Bool}
 use mathlib.Core.List.{List}
 use Prim.Native.Nat.{ℕ, suc, _-_, _+_, _<_, _≤_}
 use native.Mathlib.Omega.{arith}
-use Rattle.format.specs.Outcome.{Outcome, refused, ok, _>>=_}
-use Rattle.format.specs.Varint.{Extent, readUvarint, firstPadded, validateUvarints}
+use Rattle.format.specs.Outcome.{refused, ok}
+use Rattle.format.specs.Varint.{firstPadded, validateUvarints}
 use Rattle.format.specs.Standalone.{uvarintAnswer}
 use Rattle.format.specs.declared.Padded.{Padded}
 use Rattle.format.specs.declared.UvarintAnswer.the-variants.{Read, Malformed}

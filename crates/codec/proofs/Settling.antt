@@ -1,5 +1,5 @@
 -- The questions after the body's, by what is known of the reading, of the first padded varint and of the end; and the last ones of a packed body, by its length.
-use mathlib.Core.Path.{_≡_, refl}
+use mathlib.Core.Path.{_≡_}
 use mathlib.Core.Bool.{Bool, true, false}
 use mathlib.Core.List.{List}
 use Prim.Native.Nat.{ℕ, _+_, _-_, _*_, _/_, _<_, _≤_}

@@ -1,5 +1,4 @@
 -- Seven numbers, one by one; any other is not from 1 to 7.
-use mathlib.Core.Path.{refl}
 use Rattle.format.specs.Parts.{encodingAnswer}
 use Rattle.format.specs.Encodings.{encodingOf, encodings}
 use Rattle.codec.proofs.Numbers.{other-number}

@@ -1,5 +1,5 @@
 -- The cases of the definition: one that is known stays; else the one at `at` counts if it is padded.
-use mathlib.Core.Path.{sym, ap, ap₂, _∙_}
+use mathlib.Core.Path.{sym, ap, ap₂}
 use mathlib.Core.Bool.{Bool}
 use borrow.Author.Needs.{needs}
 use Rattle.format.specs.Varint.{firstPadded}

@@ -1,7 +1,6 @@
 -- The questions in their order, each by its test.
-use mathlib.Core.Path.{sym, ap, _∙_}
+use mathlib.Core.Path.{sym, _∙_}
 use native.Mathlib.Omega.{arith}
-use denote.Ref.{now}
 use borrow.Author.Needs.{needs}
 use Rattle.codec.proofs.Headers.{named-other, named-short, named-unknown, named-differs, named-version, named-passed, any-id, not-true, not-false}
 use Rattle.codec.proofs.header.read_header.Statement.{statement}
