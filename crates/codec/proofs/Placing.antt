@@ -3,8 +3,9 @@
 use mathlib.Core.Path.{_≡_, refl, sym, ap, _∙_}
 use mathlib.Core.Bool.{Bool, true, false}
 use mathlib.Core.List.{List, [], _∷_, _++_, append-assoc}
-use Prim.Native.Nat.{ℕ, suc, _+_, _-_, _<_, _≤_}
+use Prim.Native.Nat.{ℕ, suc, _+_, _-_, _/_, _%_, _<_, _≤_}
 use native.Mathlib.Nat.{add-zero}
+use native.Mathlib.Numerals.{add-one}
 use native.Mathlib.Omega.{arith}
 use lib.IntN.{ℤ}
 use lib.Dec.{leb}
@@ -26,6 +27,7 @@ use Rattle.format.proofs.numbers.Keys.{length-keyBytes}
 use Rattle.format.proofs.numbers.Uvarints.{length-uvarintBytes}
 use Rattle.format.proofs.numbers.Packing.{length-packed}
 use Rattle.format.proofs.codecs.Header.{length-headerBytes}
+use Rattle.varint.proofs.Bytes.{uvarintLen-one, uvarintLen-more, uvarintBytes-one, uvarintBytes-more}
 use Rattle.bitpack.proofs.Parts.{part-back}
 use Rattle.codec.specs.Places.{fitting, laid, laidEnd}
 
@@ -118,6 +120,28 @@ module _ (at : ℕ) (output : List ℕ) where
   unfolding packOutcome
   packed-laid values w few narrow h =
       rw (le-leb (length values) maxChunkElements few, le-leb w 64 narrow, le-leb (packedLen (length values) w) (length output - at) (omega arith))
+
+-- ---- a varint of one or two bytes
+
+module _ (x at : ℕ) (output : List ℕ) (inside : at < length output) where
+  pub one-stored : x < 128 → (at + 1 ≡ laidEnd (uvarintWriteOutcome x (length output - at)) at) × (set output at x ≡ laid (uvarintWriteOutcome x (length output - at)) at output)
+  one-stored h = rw (uvarint-laid at output x (omega (arith, uvarintLen-one x h)), uvarintBytes-one x h) (refl, refl)
+
+  module _ (more : 128 ≤ x) (two : x < 16384) where
+    long : uvarintLen x ≡ 2
+    long = uvarintLen-more x more (omega arith) ∙ ap suc (uvarintLen-one (x / 128) (omega arith))
+
+    pub two-short : length output - at < 2 → (at ≡ laidEnd (uvarintWriteOutcome x (length output - at)) at) × (output ≡ laid (uvarintWriteOutcome x (length output - at)) at output)
+    unfolding uvarintWriteOutcome
+    two-short h = rw (lt-leb (uvarintLen x) (length output - at) (omega (arith, long))) (refl, refl)
+
+    pub two-stored : 2 ≤ length output - at
+        → (at + 2 ≡ laidEnd (uvarintWriteOutcome x (length output - at)) at)
+        × (set (set output at (x % 128 + 128)) (at + 1) (x / 128) ≡ laid (uvarintWriteOutcome x (length output - at)) at output)
+    two-stored h =
+        let bytes : uvarintBytes x ≡ (x % 128 + 128) ∷ (x / 128) ∷ []
+        = uvarintBytes-more x more (omega arith) ∙ ap (λ (r : List ℕ). (x % 128 + 128) ∷ r) (uvarintBytes-one (x / 128) (omega arith)) in
+        rw (uvarint-laid at output x (omega (arith, long)), bytes, add-one at) (refl, refl)
 
 -- ---- a key
 

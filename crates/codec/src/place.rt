@@ -8,8 +8,8 @@ ghost use Rattle.format.specs.Standalone.{packOutcome, uvarintWriteOutcome};
 ghost use Rattle.codec.specs.Places.{fitting, laid, laidEnd};
 use format::Answer;
 
-// A varint.
-pub fn put_uvarint(value: u64, out: &mut [u8], at: usize) -> usize
+// A varint of any length.
+fn put_long(value: u64, out: &mut [u8], at: usize) -> usize
     ensures { λ r. ⌜ r ≡ laidEnd (uvarintWriteOutcome value (length (now (out .entry)) - at)) at ⌝ }
     ensures { λ r. ⌜ now (out .exit) ≡ laid (uvarintWriteOutcome value (length (now (out .entry)) - at)) at (now (out .entry)) ⌝ }
 {
@@ -20,6 +20,29 @@ pub fn put_uvarint(value: u64, out: &mut [u8], at: usize) -> usize
         return at;
     };
     at + n
+}
+
+// A varint. One of one or two bytes, as most are, needs no call.
+pub fn put_uvarint(value: u64, out: &mut [u8], at: usize) -> usize
+    ensures { λ r. ⌜ r ≡ laidEnd (uvarintWriteOutcome value (length (now (out .entry)) - at)) at ⌝ }
+    ensures { λ r. ⌜ now (out .exit) ≡ laid (uvarintWriteOutcome value (length (now (out .entry)) - at)) at (now (out .entry)) ⌝ }
+{
+    if out.len() <= at {
+        return at;
+    }
+    if value < 128 {
+        out[at] = value as u8;
+        return at + 1;
+    }
+    if value >= 16384 {
+        return put_long(value, out, at);
+    }
+    if out.len() - at < 2 {
+        return at;
+    }
+    out[at] = (value % 128) as u8 + 128;
+    out[at + 1] = (value / 128) as u8;
+    at + 2
 }
 
 // A signed varint.

@@ -1,50 +1,32 @@
--- The part from the place on is stored in, if the bytes fit, and the whole is that part after what stood before it (`Placing`).
-use mathlib.Core.Path.{sym, _∙_}
-use Prim.Native.Nat.{_-_}
+-- One byte, two bytes, or any number of them by a call: where there is room, what is stored is the varint (`Placing`).
 use native.Mathlib.Omega.{arith}
-use lib.ListN.{length, length-drop}
+use lib.ListN.{length-set}
 use denote.Ref.{now}
 use borrow.Author.Needs.{needs}
-use Rattle.format.specs.Standalone.{uvarintWriteOutcome, uvarintWriteAnswer, uvarintWriteOutput}
-use Rattle.bitpack.proofs.Parts.{part-rest}
-use Rattle.codec.proofs.Placing.{placed-whole, outside, end-accepted, end-refused, accepted-fits, uvarint-fits}
+use Rattle.codec.proofs.Placing.{outside, uvarint-fits, one-stored, two-short, two-stored}
 use Rattle.codec.proofs.place.put_uvarint.Statement.{statement}
 use Rattle.codec.proofs.place.put_uvarint.Tie as tie
 
 returns : tie.Need-returns
-returns c = let a = c .before .before .args in outside (a .at) (now (a .out)) _ (omega (arith, c .if1 .taken)) (uvarint-fits _ _)
+returns c = let a = c .before .before .args in outside (a .at) (now (a .out)) _ (c .if1 .taken) (uvarint-fits _ _)
 
 returns-2 : tie.Need-returns-2
-unfolding uvarintWriteAnswer uvarintWriteOutput
-returns-2 c =
-    let call = c .before .before .before .before in
-    let a = call .before .before .before .before .args in
-    let told = rw (part-rest (a .at) (now (a .out)), length-drop (a .at) (now (a .out))) at (call .write-uvarint .ensures) in
-    let space = length (now (a .out)) - a .at in
-    let fits = uvarint-fits (a .value) space in
-    (end-refused (uvarintWriteOutcome (a .value) space) (a .at) (sym (told .0) ∙ c .enum-told .given .1), placed-whole (a .at) (now (a .out)) _ (call .before .before .if1 .left) fits (told .1))
+returns-2 c = let a = c .before .before .before .args in one-stored (a .value) (a .at) (now (a .out)) (c .before .if1 .left) (c .if2 .taken)
 
-add-result : tie.Need-add-result
-unfolding uvarintWriteAnswer
-add-result c =
-    let call = c .before .before .before .before .before in
-    let a = call .before .before .before .before .args in
-    let told = rw (part-rest (a .at) (now (a .out)), length-drop (a .at) (now (a .out))) at (call .write-uvarint .ensures) in
-    let space = length (now (a .out)) - a .at in
-    let fits = uvarint-fits (a .value) space in
-    let room = accepted-fits (uvarintWriteOutcome (a .value) space) fits (sym (told .0) ∙ c .before .n .given .1) in
-    let inside = call .before .before .if1 .left in
-    search needs
+returns-4 : tie.Need-returns-4
+returns-4 c =
+    let more = c .before .before in
+    let a = more .before .before .before .args in
+    two-short (a .value) (a .at) (now (a .out)) (more .before .if1 .left) (more .if2 .left) (c .before .if3 .left) (c .if4 .taken)
 
-returns-3 : tie.Need-returns-3
-unfolding uvarintWriteAnswer uvarintWriteOutput
-returns-3 c =
-    let call = c .before .before .before .before .before in
-    let a = call .before .before .before .before .args in
-    let told = rw (part-rest (a .at) (now (a .out)), length-drop (a .at) (now (a .out))) at (call .write-uvarint .ensures) in
-    let space = length (now (a .out)) - a .at in
-    let fits = uvarint-fits (a .value) space in
-    (end-accepted (uvarintWriteOutcome (a .value) space) (a .at) (sym (told .0) ∙ c .before .n .given .1), placed-whole (a .at) (now (a .out)) _ (call .before .before .if1 .left) fits (told .1))
+slice-write-out-3 : tie.Need-slice-write-out-3
+slice-write-out-3 c = simp length-set (omega (arith, c .if4 .left, c .before .before .before .if1 .left))
+
+returns-5 : tie.Need-returns-5
+returns-5 c =
+    let more = c .before .before in
+    let a = more .before .before .before .args in
+    two-stored (a .value) (a .at) (now (a .out)) (more .before .if1 .left) (more .if2 .left) (c .before .if3 .left) (c .if4 .left)
 
 pub put-uvarint-spec : {M : Type 1} → statement M
 put-uvarint-spec =
@@ -54,11 +36,19 @@ put-uvarint-spec =
     (λ c. search needs)
     (λ c. search needs)
     (λ c. search needs)
+    (λ c. search needs)
+    returns-2
     (λ c κs. search needs)
     (λ c. search needs)
     (λ c. search needs)
     (λ c. search needs)
-    returns-2
-    add-result
+    returns-4
     (λ c. search needs)
-    returns-3)
+    (λ c. search needs)
+    (λ c. search needs)
+    (λ c. search needs)
+    (λ c. search needs)
+    slice-write-out-3
+    (λ c. search needs)
+    (λ c. search needs)
+    returns-5)
