@@ -1,0 +1,6 @@
+pub mod Held
+pub mod Widest
+pub mod Mapped
+pub mod Filling
+pub mod Placing
+pub mod Body

@@ -1,0 +1,11 @@
+pub mod Asking
+pub mod Blocks
+pub mod Body
+pub mod Bounding
+pub mod Held
+pub mod Measured
+pub mod Parts
+pub mod Placed
+pub mod Sums
+pub mod There
+pub mod Windows

@@ -1,0 +1,111 @@
+// The questions of a Dictionary body. Every code is checked before a value is stored.
+ghost use mathlib.Core.Path.{_≡_};
+ghost use Prim.Native.Nat.{_+_, _-_, _≤_, _<_, min};
+ghost use lib.ListN.{getD};
+ghost use Rattle.format.specs.Encodings.{maxChunkElements};
+ghost use Rattle.format.specs.Packing.{packedLen, packedValues};
+ghost use Rattle.format.specs.Dictionary.{validateDictionary, allBelow};
+ghost use Rattle.format.specs.Parts.{extentAnswerOf};
+ghost use Rattle.dictionary.specs.Reading.{Codes, settledCodes};
+use codec::body::first_padded;
+use codec::body::malformed;
+use codec::body::settle_packed;
+use codec::body::settle_uvarints;
+use format::ExtentAnswer;
+use format::Padded;
+use format::UvarintAnswer;
+
+// Is every code of a block below the number of entries?
+fn block_below(codes: &[u64], entries: u64) -> bool
+    ensures { λ r. ⌜ r ≡ allBelow entries (now (codes .entry)) ⌝ }
+{
+    let mut i = 0;
+    while i < codes.len() {
+        if codes[i] >= entries {
+            return false;
+        }
+        i += 1;
+    }
+    true
+}
+
+// How many of `left` values the next block has.
+pub(crate) fn block_len(left: usize) -> usize
+    ensures { λ r. ⌜ r ≡ min left 128 ⌝ }
+{
+    if left < 128 { left } else { 128 }
+}
+
+// The bytes of a block of codes.
+pub(crate) fn bytes_for(count: usize, width: u32) -> usize
+    requires { ⌜ (count ≤ 128) × (width ≤ 64) ⌝ }
+    ensures { λ r. ⌜ r ≡ packedLen count width ⌝ }
+{
+    (count * width as usize + 7) / 8
+}
+
+// The same of all `count` codes, packed after the width byte at `place`.
+fn codes_below(chunk: &[u8], place: usize, count: usize, entries: u64) -> bool
+    requires { ⌜ Codes (now chunk) place count ⌝ }
+    ensures { λ r. ⌜ r ≡ allBelow entries (packedValues (now (chunk .entry)) (place + 1) (getD (now (chunk .entry)) place 0) count) ⌝ }
+{
+    let w = chunk[place] as u32;
+    let mut block = [0u64; 128];
+    let mut at = place + 1;
+    let mut i = 0;
+    while i < count {
+        let n = block_len(count - i);
+        bitpack::unpack(&chunk[at..], w, n, &mut block);
+        if !block_below(&block[..n], entries) {
+            return false;
+        }
+        at += bytes_for(n, w);
+        i += n;
+    }
+    true
+}
+
+// The width byte, the packed codes, and then the codes themselves.
+fn settle_codes(
+    chunk: &[u8],
+    place: usize,
+    count: usize,
+    entries: u64,
+    padded: Padded,
+) -> ExtentAnswer
+    requires { ⌜ count ≤ maxChunkElements ⌝ }
+    ensures { λ r. ⌜ r ≡ extentAnswerOf (settledCodes (now (chunk .entry)) place count entries padded) ⌝ }
+{
+    let body = settle_packed(chunk, place, count, padded);
+    let ExtentAnswer::Ends(_, _) = body else {
+        return body;
+    };
+    if codes_below(chunk, place, count, entries) {
+        return body;
+    }
+    ExtentAnswer::Malformed(format::refusal::CODE_ABOVE_ENTRIES, place)
+}
+
+// The whole body: the total, the entries' varints, the codes.
+pub(crate) fn settle_body(chunk: &[u8], start: usize, count: usize, padded: Padded) -> ExtentAnswer
+    requires { ⌜ count ≤ maxChunkElements ⌝ }
+    ensures { λ r. ⌜ r ≡ extentAnswerOf (validateDictionary (now (chunk .entry)) start count padded) ⌝ }
+{
+    let read = varint::read_uvarint(chunk, start);
+    let UvarintAnswer::Read(entries, next, unpadded) = read else {
+        return malformed(read);
+    };
+    if entries > (chunk.len() - next) as u64 {
+        return ExtentAnswer::Malformed(format::refusal::ENTRIES_ABOVE_BYTES, next);
+    }
+    let gaps = settle_uvarints(
+        chunk,
+        next,
+        entries as usize,
+        first_padded(padded, start, unpadded),
+    );
+    let ExtentAnswer::Ends(place, first) = gaps else {
+        return gaps;
+    };
+    settle_codes(chunk, place, count, entries, first)
+}

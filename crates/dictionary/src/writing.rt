@@ -1,0 +1,136 @@
+// The parts of a body, measured and stored: the entries, which are the column's distinct values, and a code for each value, its
+// place among them.
+ghost use mathlib.Core.Path.{_≡_};
+ghost use mathlib.Core.List.{map};
+ghost use Prim.Native.Nat.{_+_, _≤_, min};
+ghost use lib.ListN.{length};
+ghost use lib.Seq.{sets};
+ghost use Rattle.format.specs.Keys.{gap};
+ghost use Rattle.format.specs.Packing.{packedLen, packed};
+ghost use Rattle.format.specs.Encodings.{maxChunkElements, maxDictionaryCardinality};
+ghost use Rattle.format.specs.Dictionary.{entryBytes, codeOf, codeWidth, dictionaryBodyWith};
+ghost use Rattle.format.specs.Estimates.{entriesLen};
+ghost use Rattle.format.proofs.numbers.Distinct.{Rising};
+ghost use Rattle.dictionary.specs.Body.{bodyLen};
+use codec::place::put_packed;
+use codec::place::put_uvarint;
+use codec::place::put_varint;
+use distinct::GUESSES;
+
+// How far an entry lies above the one before it: it may be any number of 64 bits.
+fn gap_after(last: i64, entry: i64) -> u64
+    ensures { λ r. ⌜ r ≡ gap last entry ⌝ }
+{
+    number::bits_of(number::wrapping_sub(entry, last))
+}
+
+// The width of the codes for so many entries, which is that of the last code.
+fn code_width(entries: usize) -> u32
+    ensures { λ r. ⌜ r ≡ codeWidth entries ⌝ }
+{
+    if entries == 0 {
+        return 0;
+    }
+    number::required_width((entries - 1) as u64)
+}
+
+// How many bytes the entries have.
+fn entries_len(entries: &[i64]) -> usize
+    requires { ⌜ length (now entries) ≤ maxDictionaryCardinality ⌝ }
+    ensures { λ r. ⌜ r ≡ entriesLen (now (entries .entry)) ⌝ }
+{
+    if entries.len() == 0 {
+        return 0;
+    }
+    let mut last = entries[0];
+    let mut sum = varint::varint_len(last);
+    for i in 1..entries.len() {
+        let entry = entries[i];
+        sum += varint::uvarint_len(gap_after(last, entry));
+        last = entry;
+    }
+    sum
+}
+
+// Stores the entries from `start` on, and returns the place after them.
+fn put_entries(entries: &[i64], out: &mut [u8], start: usize) -> usize
+    requires { ⌜ start + length (entryBytes (now entries)) ≤ length (now out) ⌝ }
+    ensures { λ r. ⌜ r ≡ start + length (entryBytes (now (entries .entry))) ⌝ }
+    ensures { λ _. ⌜ now (out .exit) ≡ sets (now (out .entry)) start (entryBytes (now (entries .entry))) ⌝ }
+{
+    if entries.len() == 0 {
+        return start;
+    }
+    let mut last = entries[0];
+    let mut at = put_varint(last, out, start);
+    for i in 1..entries.len() {
+        let entry = entries[i];
+        at = put_uvarint(gap_after(last, entry), out, at);
+        last = entry;
+    }
+    at
+}
+
+// How many bytes the body has for these entries and `count` values.
+pub(crate) fn body_len(entries: &[i64], count: usize) -> usize
+    requires { ⌜ (length (now entries) ≤ maxDictionaryCardinality) × (count ≤ maxChunkElements) ⌝ }
+    ensures { λ r. ⌜ r ≡ bodyLen (now (entries .entry)) count ⌝ }
+{
+    let width = code_width(entries.len()) as usize;
+    varint::uvarint_len(entries.len() as u64) + entries_len(entries) + 1 + (count * width + 7) / 8
+}
+
+// How many of the values that are left a block has.
+fn block_len(left: usize) -> usize
+    ensures { λ r. ⌜ r ≡ min left 128 ⌝ }
+{
+    if left < 128 { left } else { 128 }
+}
+
+// The codes of a part of the column, at the front of `block`.
+fn put_codes(part: &[i64], entries: &[i64], guesses: &mut [u16; GUESSES], block: &mut [u64])
+    requires { ⌜ (length (now part) ≤ length (now block)) × Rising (now entries) ⌝ }
+    ensures { λ _. ⌜ now (block .exit) ≡ sets (now (block .entry)) 0 (map (codeOf (now (entries .entry))) (now (part .entry))) ⌝ }
+{
+    for j in 0..part.len() {
+        block[j] = distinct::rank(entries, part[j], guesses) as u64;
+    }
+}
+
+// Stores the column's codes packed from `start` on.
+fn pack_codes(
+    column: &[i64],
+    entries: &[i64],
+    width: u32,
+    guesses: &mut [u16; GUESSES],
+    out: &mut [u8],
+    start: usize,
+)
+    requires { ⌜ (width ≤ 64) × (start + packedLen (length (now column)) width ≤ length (now out)) × Rising (now entries) ⌝ }
+    ensures { λ _. ⌜ now (out .exit) ≡ sets (now (out .entry)) start (packed width (map (codeOf (now (entries .entry))) (now (column .entry)))) ⌝ }
+{
+    let mut block = [0u64; 128];
+    let mut at = start;
+    let mut i = 0;
+    while i < column.len() {
+        let n = block_len(column.len() - i);
+        let end = i + n;
+        put_codes(&column[i..end], entries, guesses, &mut block);
+        at = put_packed(&block[..n], width, out, at);
+        i = end;
+    }
+}
+
+// Stores the body from `start` on: the total, the entries, the width byte, the codes.
+pub(crate) fn store(column: &[i64], entries: &[i64], out: &mut [u8], start: usize)
+    requires { ⌜ (start + bodyLen (now entries) (length (now column)) ≤ length (now out)) × Rising (now entries) ⌝ }
+    ensures { λ _. ⌜ now (out .exit) ≡ sets (now (out .entry)) start (dictionaryBodyWith (now (entries .entry)) (now (column .entry))) ⌝ }
+{
+    let total = entries.len();
+    let first = put_uvarint(total as u64, out, start);
+    let at = put_entries(entries, out, first);
+    let width = code_width(total);
+    out[at] = width as u8;
+    let mut guesses = [0u16; GUESSES];
+    pack_codes(column, entries, width, &mut guesses, out, at + 1);
+}

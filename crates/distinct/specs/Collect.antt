@@ -1,0 +1,34 @@
+-- Collecting a column's distinct values (01, "Questions at the counter", "Writing": "At most 2^24 values? 21. For Dictionary: scratch of min(count, 16,384)? 22; at most
+-- 16,384 distinct? 23"; "Offsets of 21 to 24 are 0").
+use Prim.Native.Nat.{ℕ}
+use mathlib.Core.Bool.{not, cond}
+use mathlib.Core.List.{List}
+use lib.IntN.{ℤ}
+use lib.Dec.{leb}
+use lib.ListN.{length}
+use Rattle.format.specs.Outcome.{Outcome, ok, check, _>>=_}
+use Rattle.format.specs.Encodings.{maxChunkElements, maxDictionaryCardinality}
+use Rattle.format.specs.Answers.{answerOf}
+use Rattle.format.specs.Distinct.{insert, distinct, tooManyDistinct, scratchCheck}
+use Rattle.format.specs.declared.Answer.{Answer}
+
+-- the question that is asked once the values are collected: "at most 16,384 distinct? 23". It finds how many there are
+unfoldable pub countOutcome : List ℤ → Outcome ℕ
+countOutcome column = do
+  _ ← check (not (tooManyDistinct column)) 23 0
+  ok (length (distinct column))
+
+-- the whole list, for a scratch of `room` places
+unfoldable pub collectOutcome : List ℤ → ℕ → Outcome ℕ
+collectOutcome column room = do
+  _ ← check (leb (length column) maxChunkElements) 21 0
+  _ ← scratchCheck column room
+  countOutcome column
+
+-- THE ANSWER of collecting them: accepted, with their number. The scratch after it is format's `writeScratch` of encoding 6
+unfoldable pub collectAnswer : List ℤ → ℕ → Answer
+collectAnswer column room = answerOf (collectOutcome column room)
+
+-- a value taken in among those held, unless they are more than 16,384 with it
+unfoldable pub taken : ℤ → List ℤ → List ℤ
+taken v held = cond (leb (length (insert v held)) maxDictionaryCardinality) (insert v held) held

@@ -1,0 +1,3 @@
+-- The laws that the proofs of `plain` cite.
+pub mod Turns
+pub mod Chunks

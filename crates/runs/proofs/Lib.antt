@@ -1,0 +1,8 @@
+-- The laws that the proofs of `runs` instantiate.
+pub mod RunEnds
+pub mod Fills
+pub mod Measures
+pub mod Asks
+pub mod Puts
+pub mod Needed
+pub mod Shorts

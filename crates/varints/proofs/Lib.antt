@@ -1,0 +1,5 @@
+-- The laws that the proofs of `varints` cite.
+pub mod Measuring
+pub mod Turns
+pub mod Scanning
+pub mod Chunks

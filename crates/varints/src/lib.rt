@@ -1,0 +1,197 @@
+// 2. Varint: one signed varint each (the Rust's `VarintCodec`).
+ghost use mathlib.Core.Path.{_≡_};
+ghost use mathlib.Core.Bool.{true, false};
+ghost use Prim.Native.Nat.{ℕ, _+_, _≤_, _<_};
+ghost use lib.IntN.{pos};
+ghost use lib.ListN.{length, getD};
+ghost use lib.Seq.{sets};
+ghost use Rattle.format.specs.Answers.{stored};
+ghost use Rattle.format.specs.Encodings.{maxChunkElements};
+ghost use Rattle.format.specs.Header.{headerLen, named};
+ghost use Rattle.format.specs.Keys.{zigzag};
+ghost use Rattle.format.specs.Parts.{settled};
+ghost use Rattle.format.specs.Read.{readAnswer, readColumn};
+ghost use Rattle.format.specs.Standalone.{varintAnswer};
+ghost use Rattle.format.specs.Varint.{varintLen, validateUvarints};
+ghost use Rattle.format.specs.VarintBody.{varintBody, varintBodyValues};
+ghost use Rattle.format.specs.Write.{writeAnswer, writeOutput};
+ghost use Rattle.codec.specs.Refusals.{outcomeOf};
+ghost use Rattle.varints.specs.Lacking.{Lacking};
+ghost use Rattle.varints.specs.Readable.{Readable, Passes};
+use crate::scan::readable;
+use codec::body::settle;
+use codec::body::settle_uvarints;
+use codec::header::header_len;
+use codec::header::put_header;
+use codec::header::read_header;
+use codec::header::refusal_of_header;
+use codec::place::put_varint;
+use format::Answer;
+use format::Encoding;
+use format::ExtentAnswer;
+use format::HeaderAnswer;
+use format::Padded;
+use format::VarintAnswer;
+use format::limits::MAX_CHUNK_ELEMENTS;
+
+pub(crate) mod scan;
+
+// `varint::varint_len`, with its commonest case asked first: one byte is told from the value, with no width.
+fn key_len(value: i64) -> usize
+    ensures { λ r. ⌜ r ≡ varintLen value ⌝ }
+{
+    let zigzag = number::zigzag_encode(value);
+    if zigzag < 128 {
+        1
+    } else {
+        varint::uvarint_len(zigzag)
+    }
+}
+
+// How many bytes the body of a column has.
+fn body_len(column: &[i64]) -> usize
+    requires { ⌜ length (now column) ≤ maxChunkElements ⌝ }
+    ensures { λ r. ⌜ r ≡ length (varintBody (now (column .entry))) ⌝ }
+{
+    let mut len = 0;
+    for i in 0..column.len() {
+        len += key_len(column[i]);
+    }
+    len
+}
+
+// Every bit that the ZigZag of a value has.
+fn zigzag_bits(column: &[i64]) -> u64
+    ensures { λ r. ⌜ ((i : ℕ) → i < length (now (column .entry)) → zigzag (getD (now (column .entry)) i (pos 0)) ≤ r) ⌝ }
+{
+    let mut bits = 0;
+    for i in 0..column.len() {
+        bits = bits | number::zigzag_encode(column[i]);
+    }
+    bits
+}
+
+// The length of a column's chunk where `space` bytes are too few for it, else 0. Each varint is measured only where there
+// is no room for all of them at ten bytes, or at the length of the longest.
+fn lacking(column: &[i64], space: usize) -> usize
+    requires { ⌜ length (now column) ≤ maxChunkElements ⌝ }
+    ensures { λ r. ⌜ Lacking (headerLen (length (now (column .entry))) + length (varintBody (now (column .entry)))) space r ⌝ }
+{
+    let header = header_len(column.len());
+    if header + 10 * column.len() <= space {
+        return 0;
+    }
+    if header + varint::uvarint_len(zigzag_bits(column)) * column.len() <= space {
+        return 0;
+    }
+    let needed = header + body_len(column);
+    if needed <= space { 0 } else { needed }
+}
+
+// Stores the body of a column from `at` on, and answers the place after it.
+fn store(column: &[i64], out: &mut [u8], at: usize) -> usize
+    requires { ⌜ at + length (varintBody (now column)) ≤ length (now out) ⌝ }
+    ensures { λ r. ⌜ r ≡ at + length (varintBody (now (column .entry))) ⌝ }
+    ensures { λ r. ⌜ now (out .exit) ≡ sets (now (out .entry)) at (varintBody (now (column .entry))) ⌝ }
+{
+    let mut next = at;
+    for i in 0..column.len() {
+        next = put_varint(column[i], out, next);
+    }
+    next
+}
+
+// Whether a scan is enough: the reading is not strict, and every varint is readable.
+fn passes(chunk: &[u8], strict: bool, start: usize, count: usize) -> bool
+    requires { ⌜ (start ≤ length (now chunk)) × (count ≤ maxChunkElements) ⌝ }
+    ensures { λ r. ⌜ (r ≡ true → (strict ≡ false) × Passes (now (chunk .entry)) start count) ⌝ }
+{
+    if strict {
+        return false;
+    }
+    readable(chunk, start, count)
+}
+
+// The body's questions. Strict reading alone looks at where a body that passes ends, and at padding: for another the answer does
+// not tell them, and the varints are asked one after the other only where the scan cannot tell that all are readable.
+fn settle_body(
+    chunk: &[u8],
+    strict: bool,
+    start: usize,
+    count: usize,
+    padded: Padded,
+) -> ExtentAnswer
+    requires { ⌜ (start ≤ length (now chunk)) × (count ≤ maxChunkElements) ⌝ }
+    ensures { λ r. ⌜ ((room : ℕ) → settled strict (now (chunk .entry)) count room (outcomeOf r)
+        ≡ settled strict (now (chunk .entry)) count room (validateUvarints (now (chunk .entry)) start count padded)) ⌝ }
+{
+    if passes(chunk, strict, start, count) {
+        return ExtentAnswer::Ends(start, padded);
+    }
+    settle_uvarints(chunk, start, count, padded)
+}
+
+// `varint::read_varint`, with its commonest case here: a varint of one byte needs no call.
+fn read_key(chunk: &[u8], at: usize) -> VarintAnswer
+    ensures { λ r. ⌜ r ≡ varintAnswer (now (chunk .entry)) at ⌝ }
+{
+    if chunk.len() <= at {
+        return VarintAnswer::Malformed(format::refusal::VARINT_CUT, at);
+    }
+    let byte = chunk[at];
+    if byte < 128 {
+        return VarintAnswer::Read(number::zigzag_decode(byte as u64), at + 1, true);
+    }
+    varint::read_varint(chunk, at)
+}
+
+// Stores the `count` values of a body that starts at `start` to the front of `column`. Each varint was read before, so none is
+// refused here.
+fn fill(chunk: &[u8], start: usize, count: usize, column: &mut [i64])
+    requires { ⌜ Readable (now chunk) start count × (count ≤ length (now column)) ⌝ }
+    ensures { λ _. ⌜ now (column .exit) ≡ stored (varintBodyValues (now (chunk .entry)) start count) (now (column .entry)) ⌝ }
+{
+    let mut at = start;
+    for i in 0..count {
+        let read = read_key(chunk, at);
+        let VarintAnswer::Read(key, next, _) = read else {
+            return;
+        };
+        column[i] = key;
+        at = next;
+    }
+}
+
+// Writes a column as a chunk to the front of `out`.
+pub fn encode(column: &[i64], out: &mut [u8]) -> Answer
+    ensures { λ r. ⌜ r ≡ writeAnswer 2 (now (column .entry)) 0 (length (now (out .entry))) ⌝ }
+    ensures { λ r. ⌜ now (out .exit) ≡ writeOutput 2 (now (column .entry)) 0 (now (out .entry)) ⌝ }
+{
+    if column.len() > MAX_CHUNK_ELEMENTS {
+        return Answer::Refused(format::refusal::COLUMN_ABOVE_LIMIT, 0);
+    }
+    let needed = lacking(column, out.len());
+    if needed > 0 {
+        return Answer::Refused(format::refusal::BUFFER_TOO_SHORT, needed);
+    }
+    let at = put_header(Encoding::Varint, column.len(), out);
+    Answer::Accepted(store(column, out, at))
+}
+
+// Reads a chunk into the front of `column`.
+pub fn decode(chunk: &[u8], strict: bool, column: &mut [i64]) -> Answer
+    ensures { λ r. ⌜ r ≡ readAnswer strict (named 2) (now (chunk .entry)) (length (now (column .entry))) ⌝ }
+    ensures { λ r. ⌜ now (column .exit) ≡ readColumn strict (named 2) (now (chunk .entry)) (now (column .entry)) ⌝ }
+{
+    let header = read_header(chunk, 2);
+    let HeaderAnswer::Found(count, start, padded) = header else {
+        return refusal_of_header(header);
+    };
+    let body = settle_body(chunk, strict, start, count, padded);
+    let answer = settle(chunk, strict, count, column.len(), body);
+    let Answer::Accepted(n) = answer else {
+        return answer;
+    };
+    fill(chunk, start, n, column);
+    answer
+}
