@@ -1,6 +1,6 @@
 -- Measuring the runs of a column: what was counted and what is still to come are the whole. A column of up to 2^24 values has no more runs, of at most 20 bytes
 -- each, so no sum wraps.
-use mathlib.Core.Path.{_≡_, refl, ap, _∙_}
+use mathlib.Core.Path.{_≡_, ap, _∙_}
 use mathlib.Core.List.{List, _∷_}
 use Prim.Native.Nat.{ℕ, _+_, _-_, _*_, _^_, _≤_, _<_}
 use native.Mathlib.Omega.{arith}

@@ -1,6 +1,6 @@
 -- The length needed for a chunk of runs: the header's, the total's and what was measured are the header's and the body's. Of up to 2^24 values it is small, so no
 -- sum wraps.
-use mathlib.Core.Path.{_≡_, ap}
+use mathlib.Core.Path.{_≡_}
 use mathlib.Core.List.{List}
 use Prim.Native.Nat.{ℕ, _+_, _*_, _≤_}
 use native.Mathlib.Omega.{arith}

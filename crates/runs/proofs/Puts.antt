@@ -1,13 +1,13 @@
 -- Storing the runs of a column: each run is its key's varint and its length's, one after the other, and where the whole has room so has each of them.
-use mathlib.Core.Path.{_≡_, refl, sym, ap, _∙_}
-use mathlib.Core.List.{List, [], _∷_, _++_, append-assoc}
+use mathlib.Core.Path.{_≡_, refl, ap, _∙_}
+use mathlib.Core.List.{List, _∷_, _++_, append-assoc}
 use Prim.Native.Nat.{ℕ, _+_, _-_, _^_, _≤_, _<_}
 use native.Mathlib.Omega.{arith}
 use borrow.Author.Needs.{sfits-of}
 use lib.IntN.{ℤ, pos}
 use lib.Signed.{mag}
 use lib.ListN.{length, getD, drop, length-append, drop-of-length-le}
-use lib.Seq.{sets, length-sets}
+use lib.Seq.{sets}
 use mir.Syntax.{w64}
 use mir.Val.{toZ, ofZ}
 use mir.Facts.{toZ-ofZ}

@@ -17,7 +17,7 @@ use lib.Seq.{drop-cons}
 use mir.Syntax.{w64}
 use mir.Val.{SFits, ofZ}
 use Rattle.format.specs.Keys.{eqZ}
-use Rattle.format.specs.Runs.{Run, runsFrom, runs}
+use Rattle.format.specs.Runs.{runsFrom, runs}
 use Rattle.format.proofs.numbers.Order.{eqZ-true}
 use Rattle.runs.specs.RunAt.{runOf, Running, RunAt, sameKey, sameFrom}
 

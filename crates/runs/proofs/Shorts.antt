@@ -1,6 +1,6 @@
 -- Short varints: what is told byte by byte is what reading finds. A varint of one byte, of two or of three ends where its last byte is below 128, and is unpadded
 -- where that byte is not 0.
-use mathlib.Core.Path.{_≡_, refl, sym, ap, ap₂, _∙_}
+use mathlib.Core.Path.{_≡_, refl, sym, ap, _∙_}
 use mathlib.Core.Bool.{Bool, not}
 use mathlib.Core.List.{List}
 use Prim.Native.Nat.{ℕ, _+_, _*_, _%_, _≤_, _<_}
@@ -19,7 +19,7 @@ use Rattle.format.proofs.numbers.UvarintRows.{firstPadded-unpadded}
 use Rattle.format.proofs.codecs.Counts.{uvarint-again}
 use Rattle.varint.proofs.Answers.{answer-read, answer-malformed}
 use Rattle.varint.proofs.Reading.{summed, begin, again, answer-one, answer-two, answer-last}
-use Rattle.runs.specs.Shorts.{shortValue, Short, foundAt}
+use Rattle.runs.specs.Shorts.{Short, foundAt}
 
 -- three groups, as the machine adds them
 three-groups : (a b c : ℕ) → a < 128 → b < 128 → c < 128 → a + b * 128 + c * 16384 ≡ summed (summed a b 7) c 14
@@ -78,7 +78,8 @@ module _ (s : List ℕ) (at : ℕ) where
   unfolding validateUvarints
   extent-malformed padded {number} {offset} e = go (readUvarint s at) e
     where
-      go : (o : Outcome UvarintRead) → extentAnswerOf (o >>= λ v. ok (record { end = v .next; padded = firstPadded padded at (v .unpadded) })) ≡ MalformedExtent number offset
+      go : (o : Outcome UvarintRead)
+          → extentAnswerOf (o >>= λ v. ok (record { end = v .next; padded = firstPadded padded at (v .unpadded) })) ≡ MalformedExtent number offset
           → o ≡ refused number offset
       go (refused n k) h = cc
       go (ok key) h = let z : _≡_ {A = ℕ} 0 1 = cc in absurd (omega arith)

@@ -1,4 +1,5 @@
-// Reading the varints of runs. Most are short, and these are told here byte by byte, in functions that the compiler inlines.
+// Reading the varints of runs. Most are short, and these are told here byte by byte, in functions that the compiler inlines: an
+// answer handed back through memory costs more than they do.
 ghost use mathlib.Core.Path.{_≡_};
 ghost use Prim.Native.Nat.{_+_, _%_, _≤_, _<_};
 ghost use lib.ListN.{length};
@@ -36,7 +37,7 @@ pub(crate) fn read_length(chunk: &[u8], at: usize) -> UvarintAnswer
     varint::read_uvarint(chunk, at)
 }
 
-// How many bytes a varint has that is not padded: 1 to 3, or 0 where it has more or stands near the end.
+// How many bytes a varint has: 1 to 3, or 0 where it is left to the call, since it has more, is padded or stands near the end.
 fn short_len(chunk: &[u8], at: usize) -> usize
     ensures { λ r. ⌜ Short (now (chunk .entry)) at r ⌝ }
 {
@@ -66,7 +67,7 @@ fn short_len(chunk: &[u8], at: usize) -> usize
     0
 }
 
-// The value of a varint of n bytes, by `short_len`.
+// The value of a varint that has n bytes by `short_len`.
 fn short_value(chunk: &[u8], at: usize, n: usize) -> u64
     requires { ⌜ at + 3 ≤ length (now chunk) ⌝ }
     ensures { λ r. ⌜ r ≡ shortValue (now (chunk .entry)) at n ⌝ }
@@ -97,24 +98,17 @@ pub(crate) struct Found {
     pub next: usize,
 }
 
-// Any of them.
-fn find_long(chunk: &[u8], at: usize) -> Found
-    ensures { λ r. ⌜ r ≡ foundAt (now (chunk .entry)) at ⌝ }
-{
-    let read = varint::read_uvarint(chunk, at);
-    let UvarintAnswer::Read(value, next, _) = read else {
-        return Found { value: 0, next: 0 };
-    };
-    Found { value, next }
-}
-
 // A run's key.
 pub(crate) fn find_key(chunk: &[u8], at: usize) -> Found
     ensures { λ r. ⌜ r ≡ foundAt (now (chunk .entry)) at ⌝ }
 {
     let short = short_len(chunk, at);
     if short == 0 {
-        return find_long(chunk, at);
+        let read = varint::read_uvarint(chunk, at);
+        let UvarintAnswer::Read(value, next, _) = read else {
+            return Found { value: 0, next: 0 };
+        };
+        return Found { value, next };
     }
     let value = short_value(chunk, at, short);
     Found {

@@ -1,3 +1,4 @@
 pub mod Lacking
+pub mod Lengths
 pub mod Readable
 pub mod Scans

@@ -1,27 +1,24 @@
 // 2. Varint: one signed varint each (the Rust's `VarintCodec`).
 ghost use mathlib.Core.Path.{_≡_};
 ghost use mathlib.Core.Bool.{true, false};
-ghost use Prim.Native.Nat.{ℕ, _+_, _≤_, _<_};
-ghost use lib.IntN.{pos};
-ghost use lib.ListN.{length, getD};
+ghost use Prim.Native.Nat.{ℕ, _+_, _≤_};
+ghost use lib.ListN.{length};
 ghost use lib.Seq.{sets};
 ghost use Rattle.format.specs.Answers.{stored};
 ghost use Rattle.format.specs.Encodings.{maxChunkElements};
-ghost use Rattle.format.specs.Header.{headerLen, named};
-ghost use Rattle.format.specs.Keys.{zigzag};
+ghost use Rattle.format.specs.Header.{named};
 ghost use Rattle.format.specs.Parts.{settled};
 ghost use Rattle.format.specs.Read.{readAnswer, readColumn};
 ghost use Rattle.format.specs.Standalone.{varintAnswer};
-ghost use Rattle.format.specs.Varint.{varintLen, validateUvarints};
+ghost use Rattle.format.specs.Varint.{validateUvarints};
 ghost use Rattle.format.specs.VarintBody.{varintBody, varintBodyValues};
 ghost use Rattle.format.specs.Write.{writeAnswer, writeOutput};
 ghost use Rattle.codec.specs.Refusals.{outcomeOf};
-ghost use Rattle.varints.specs.Lacking.{Lacking};
 ghost use Rattle.varints.specs.Readable.{Readable, Passes};
+use crate::lengths::lacking;
 use crate::scan::readable;
 use codec::body::settle;
 use codec::body::settle_uvarints;
-use codec::header::header_len;
 use codec::header::put_header;
 use codec::header::read_header;
 use codec::header::refusal_of_header;
@@ -34,59 +31,8 @@ use format::Padded;
 use format::VarintAnswer;
 use format::limits::MAX_CHUNK_ELEMENTS;
 
+pub(crate) mod lengths;
 pub(crate) mod scan;
-
-// `varint::varint_len`, with its commonest case asked first: one byte is told from the value, with no width.
-fn key_len(value: i64) -> usize
-    ensures { λ r. ⌜ r ≡ varintLen value ⌝ }
-{
-    let zigzag = number::zigzag_encode(value);
-    if zigzag < 128 {
-        1
-    } else {
-        varint::uvarint_len(zigzag)
-    }
-}
-
-// How many bytes the body of a column has.
-fn body_len(column: &[i64]) -> usize
-    requires { ⌜ length (now column) ≤ maxChunkElements ⌝ }
-    ensures { λ r. ⌜ r ≡ length (varintBody (now (column .entry))) ⌝ }
-{
-    let mut len = 0;
-    for i in 0..column.len() {
-        len += key_len(column[i]);
-    }
-    len
-}
-
-// Every bit that the ZigZag of a value has.
-fn zigzag_bits(column: &[i64]) -> u64
-    ensures { λ r. ⌜ ((i : ℕ) → i < length (now (column .entry)) → zigzag (getD (now (column .entry)) i (pos 0)) ≤ r) ⌝ }
-{
-    let mut bits = 0;
-    for i in 0..column.len() {
-        bits = bits | number::zigzag_encode(column[i]);
-    }
-    bits
-}
-
-// The length of a column's chunk where `space` bytes are too few for it, else 0. Each varint is measured only where there
-// is no room for all of them at ten bytes, or at the length of the longest.
-fn lacking(column: &[i64], space: usize) -> usize
-    requires { ⌜ length (now column) ≤ maxChunkElements ⌝ }
-    ensures { λ r. ⌜ Lacking (headerLen (length (now (column .entry))) + length (varintBody (now (column .entry)))) space r ⌝ }
-{
-    let header = header_len(column.len());
-    if header + 10 * column.len() <= space {
-        return 0;
-    }
-    if header + varint::uvarint_len(zigzag_bits(column)) * column.len() <= space {
-        return 0;
-    }
-    let needed = header + body_len(column);
-    if needed <= space { 0 } else { needed }
-}
 
 // Stores the body of a column from `at` on, and answers the place after it.
 fn store(column: &[i64], out: &mut [u8], at: usize) -> usize

@@ -1,4 +1,4 @@
--- `runs::reading::fill_runs` meets its contract: the runs stored, and those still to come, are the whole. They passed, so no length is refused, and there is room for each.
+-- `runs::reading::fill_runs` meets its contract: the runs stored, and those still to come, are the whole. They passed, so no length is refused, and each has room.
 use mathlib.Core.Path.{sym, _∙_}
 use Prim.Native.Nat.{_-_}
 use native.Mathlib.Omega.{arith}
