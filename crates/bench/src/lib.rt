@@ -7,7 +7,10 @@
 ghost use mathlib.Core.Path.{_≡_};
 ghost use lib.ListN.{length};
 ghost use Rattle.format.specs.Answers.{stored};
+ghost use Rattle.format.specs.Header.{unnamed};
+ghost use Rattle.format.specs.Read.{readAnswer, readColumn};
 ghost use Rattle.format.specs.Standalone.{packAnswer, packOutput, unpackAnswer, unpackBuffer};
+ghost use Rattle.format.specs.Write.{writeAnswer, writeOutput, writeScratch};
 ghost use Rattle.bench.specs.Flat.{flat};
 ghost use Rattle.bench.specs.Rows.{rowValues, rowBytes};
 use format::Answer;
@@ -98,4 +101,28 @@ pub extern "C" fn bench_write_uvarints(values: &[u64], out: &mut [u8]) -> usize
         at += written;
     }
     at
+}
+
+// Writes a column in the encoding with a number to the front of `out`.
+#[no_mangle]
+pub extern "C" fn bench_encode(
+    column: &[i64],
+    number: u32,
+    scratch: &mut [i64],
+    out: &mut [u8],
+) -> FlatAnswer
+    ensures { λ r. ⌜ r ≡ flat (writeAnswer number (now (column .entry)) (length (now (scratch .entry))) (length (now (out .entry)))) ⌝ }
+    ensures { λ r. ⌜ now (scratch .exit) ≡ writeScratch number (now (column .entry)) (now (scratch .entry)) ⌝ }
+    ensures { λ r. ⌜ now (out .exit) ≡ writeOutput number (now (column .entry)) (length (now (scratch .entry))) (now (out .entry)) ⌝ }
+{
+    flat_answer(integer::encode_integers(column, number, scratch, out))
+}
+
+// Reads a chunk, strictly or not, into the front of `column`.
+#[no_mangle]
+pub extern "C" fn bench_decode(chunk: &[u8], strict: bool, column: &mut [i64]) -> FlatAnswer
+    ensures { λ r. ⌜ r ≡ flat (readAnswer strict unnamed (now (chunk .entry)) (length (now (column .entry)))) ⌝ }
+    ensures { λ r. ⌜ now (column .exit) ≡ readColumn strict unnamed (now (chunk .entry)) (now (column .entry)) ⌝ }
+{
+    flat_answer(integer::decode_integers(chunk, strict, column))
 }

@@ -21,6 +21,11 @@ impl Random {
         self.next().checked_shr(64 - width).unwrap_or(0)
     }
 
+    /// A number from 0 on, below the bound.
+    pub fn below(&mut self, bound: u64) -> i64 {
+        (self.next() % bound) as i64
+    }
+
     /// A number whose varint has this many bytes, 1 to 10.
     fn of_length(&mut self, length: u32) -> u64 {
         let high = (length - 1) * 7;

@@ -1,9 +1,11 @@
 //! Times our proved code against the original Rust, both in one run on the same inputs. See docs/BENCHMARKS.md.
 
+mod codecs;
 mod inputs;
 mod options;
 mod ours;
 mod packing;
+mod shapes;
 mod table;
 mod timing;
 mod varints;
@@ -17,6 +19,15 @@ const PASSES: usize = 3;
 
 /// Every row once.
 fn pass(options: &Options) -> Vec<Row> {
+    let mut rows = if options.leaves { leaves(options) } else { Vec::new() };
+    if options.codecs {
+        rows.extend(shapes::SHAPES.iter().flat_map(|shape| codecs::rows(shape, options)));
+    }
+    rows
+}
+
+/// Packing and varints.
+fn leaves(options: &Options) -> Vec<Row> {
     let widths = packing::WIDTHS;
     let mixes = inputs::MIXES;
     let packs = widths.iter().map(|&width| packing::pack_row(width, options));
@@ -41,11 +52,16 @@ fn main() {
     table::print(&rows, options.markdown);
     println!();
     println!(
-        "{} values, best of {PASSES} times {} rounds. Of the Rust's unpack, {:.2} ns a value are for its new Vec.",
+        "{} values, best of {PASSES} times {} rounds. Of the Rust's unpack and decode, {:.2} ns a value are for its new Vec.",
         options.count,
         options.rounds,
         packing::allocation(&options)
     );
+    for operation in ["encode", "decode"] {
+        if let Some(mean) = table::mean(&rows, operation) {
+            println!("{operation}: {mean:.2} times as fast, as the geometric mean of its rows.");
+        }
+    }
     for row in rows.iter().filter(|row| row.missed()) {
         println!("Below what is wanted: {} {}", row.operation, row.input);
     }

@@ -7,20 +7,25 @@ pub struct Options {
     pub count: usize,
     pub rounds: usize,
     pub markdown: bool,
+    pub leaves: bool,
+    pub codecs: bool,
 }
 
 impl Options {
     pub fn from_arguments() -> Result<Options, String> {
-        let mut options = Options { count: 1_000_000, rounds: 25, markdown: false };
+        let mut options = Options { count: 1_000_000, rounds: 25, markdown: false, leaves: true, codecs: true };
         let mut arguments = std::env::args().skip(1);
         while let Some(argument) = arguments.next() {
             match argument.as_str() {
                 "--count" => options.count = number("--count", arguments.next(), MOST_VALUES)?,
                 "--rounds" => options.rounds = number("--rounds", arguments.next(), 1_000_000)?,
                 "--markdown" => options.markdown = true,
+                "--leaves" => options.codecs = false,
+                "--codecs" => options.leaves = false,
                 _ => {
                     return Err(format!(
-                        "there is no option {argument}; the options are --count VALUES, --rounds ROUNDS and --markdown."
+                        "there is no option {argument}; the options are --count VALUES, --rounds ROUNDS, --markdown, \
+                         --leaves and --codecs."
                     ))
                 }
             }

@@ -14,6 +14,11 @@ pub fn accepted(count: usize) -> Answer {
     Answer { number: 0, offset: 0, count }
 }
 
+/// The answer that stands for a refusal.
+pub fn refused(number: u32, offset: usize) -> Answer {
+    Answer { number, offset, count: 0 }
+}
+
 extern "C" {
     fn bench_pack(values: *const u64, values_len: usize, width: u32, out: *mut u8, out_len: usize) -> Answer;
     fn bench_unpack(
@@ -26,6 +31,16 @@ extern "C" {
     ) -> Answer;
     fn bench_read_uvarints(bytes: *const u8, bytes_len: usize, out: *mut u64, out_len: usize) -> usize;
     fn bench_write_uvarints(values: *const u64, values_len: usize, out: *mut u8, out_len: usize) -> usize;
+    fn bench_encode(
+        column: *const i64,
+        column_len: usize,
+        number: u32,
+        scratch: *mut i64,
+        scratch_len: usize,
+        out: *mut u8,
+        out_len: usize,
+    ) -> Answer;
+    fn bench_decode(chunk: *const u8, chunk_len: usize, strict: bool, column: *mut i64, column_len: usize) -> Answer;
 }
 
 pub fn pack(values: &[u64], width: u32, out: &mut [u8]) -> Answer {
@@ -42,4 +57,22 @@ pub fn read_uvarints(bytes: &[u8], out: &mut [u64]) -> usize {
 
 pub fn write_uvarints(values: &[u64], out: &mut [u8]) -> usize {
     unsafe { bench_write_uvarints(values.as_ptr(), values.len(), out.as_mut_ptr(), out.len()) }
+}
+
+pub fn encode(column: &[i64], number: u32, scratch: &mut [i64], out: &mut [u8]) -> Answer {
+    unsafe {
+        bench_encode(
+            column.as_ptr(),
+            column.len(),
+            number,
+            scratch.as_mut_ptr(),
+            scratch.len(),
+            out.as_mut_ptr(),
+            out.len(),
+        )
+    }
+}
+
+pub fn decode(chunk: &[u8], strict: bool, column: &mut [i64]) -> Answer {
+    unsafe { bench_decode(chunk.as_ptr(), chunk.len(), strict, column.as_mut_ptr(), column.len()) }
 }

@@ -27,9 +27,18 @@ impl Row {
             format!("{:.2}", self.times.original),
             format!("{:.2}", self.times.ours),
             format!("{:.2}", self.ratio()),
-            self.wanted.map_or(String::new(), |wanted| format!("{wanted:.0}")),
+            self.wanted.map_or(String::new(), |wanted| wanted.to_string()),
         ]
     }
+}
+
+/// The geometric mean of an operation's ratios.
+pub fn mean(rows: &[Row], operation: &str) -> Option<f64> {
+    let ratios: Vec<f64> = rows.iter().filter(|row| row.operation == operation).map(Row::ratio).collect();
+    if ratios.is_empty() {
+        return None;
+    }
+    Some((ratios.iter().map(|ratio| ratio.ln()).sum::<f64>() / ratios.len() as f64).exp())
 }
 
 const HEADS: [&str; 6] = ["operation", "input", "Rust, ns a value", "ours, ns a value", "times as fast", "wanted"];
