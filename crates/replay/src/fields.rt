@@ -19,11 +19,15 @@ fn wide(b: u8) -> u64
     b as u64
 }
 
-pub(crate) fn u8_at(s: &[u8], at: usize) -> u64 {
+pub(crate) fn u8_at(s: &[u8], at: usize) -> u64
+    ensures { λ r. ⌜ r < 256 ⌝ }
+{
     wide(byte_at(s, at, 0))
 }
 
-pub(crate) fn u16_at(s: &[u8], at: usize) -> u64 {
+pub(crate) fn u16_at(s: &[u8], at: usize) -> u64
+    ensures { λ r. ⌜ r < 65536 ⌝ }
+{
     wide(byte_at(s, at, 0)) + wide(byte_at(s, at, 1)) * 256
 }
 

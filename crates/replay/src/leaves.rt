@@ -1,67 +1,17 @@
 // The original Rust's answers on numbers, varints and packing, replayed: data/leaves.bin. docs/ORACLE.md says what a record of
 // each kind holds.
-ghost use mathlib.Core.Path.{_≡_};
-ghost use Prim.Native.Nat.{_<_};
-ghost use lib.ListN.{length};
-use crate::fields;
 use crate::fields::answer_is;
-use crate::fields::byte_at;
 use crate::fields::same_bytes;
 use crate::fields::u8_at;
 use crate::fields::u16_at;
-use crate::fields::u32_at;
 use crate::fields::u64_at;
 use crate::packing;
+use crate::records::COUNTS;
+use crate::text;
 use format::UvarintAnswer;
 use format::VarintAnswer;
-use libc::STDOUT_FILENO;
 
-// Kinds of records: 1 to 6.
-const KINDS: usize = 7;
-
-// Replays every record of the file and prints for each kind how many answers hold. A record that does not hold is named
-// by its place in the file.
-pub(crate) fn replay(file: &[u8]) {
-    let mut held = [0u64; KINDS];
-    let mut at = fields::after_header(file);
-    while at < file.len() {
-        at = replay_at(file, at, &mut held);
-    }
-    report(&held);
-}
-
-// Replays the record at `at`, a byte for its kind, the length of the rest in four bytes, the rest, and gives the place after it.
-fn replay_at(file: &[u8], at: usize, held: &mut [u64; KINDS]) -> usize
-    requires { ⌜ at < length (now file) ⌝ }
-    ensures { λ r. ⌜ at < r ⌝ }
-{
-    if file.len() - at < 5 {
-        return wrong(at, file.len());
-    }
-    let length = u32_at(file, at + 1) as usize;
-    if file.len() - at - 5 < length {
-        return wrong(at, file.len());
-    }
-    let end = at + 5 + length;
-    let kind = byte_at(file, at, 0) as usize;
-    if kind < KINDS {
-        if holds(kind, &file[at + 5..end]) {
-            held[kind] = std::num::wrapping_add_u64(held[kind], 1);
-            return end;
-        }
-    }
-    wrong(at, end)
-}
-
-// Says that the record at `at` does not hold, and gives the place to go on from.
-fn wrong(at: usize, next: usize) -> usize
-    ensures { λ r. ⌜ r ≡ next ⌝ }
-{
-    count(b"does not hold: the record at ", at as u64);
-    next
-}
-
-fn holds(kind: usize, record: &[u8]) -> bool {
+pub(crate) fn holds(kind: usize, record: &[u8]) -> bool {
     match kind {
         1 => number_holds(record),
         2 => reading_holds(record),
@@ -73,19 +23,13 @@ fn holds(kind: usize, record: &[u8]) -> bool {
     }
 }
 
-fn report(held: &[u64; KINDS]) {
-    count(b"numbers: ", held[1]);
-    count(b"varints read: ", held[2]);
-    count(b"packings: ", held[3]);
-    count(b"unpackings: ", held[4]);
-    count(b"packed lengths: ", held[5]);
-    count(b"packings of many values, and back: ", held[6]);
-}
-
-fn count(what: &[u8], n: u64) {
-    io::write_all(STDOUT_FILENO, what);
-    io::print_decimal(STDOUT_FILENO, n);
-    io::write_all(STDOUT_FILENO, b"\n");
+pub(crate) fn report(held: &[u64; COUNTS]) {
+    text::count(b"numbers: ", held[1]);
+    text::count(b"varints read: ", held[2]);
+    text::count(b"packings: ", held[3]);
+    text::count(b"unpackings: ", held[4]);
+    text::count(b"packed lengths: ", held[5]);
+    text::count(b"packings of many values, and back: ", held[6]);
 }
 
 // Kind 1: a number's ZigZag both ways, its width, its length and bytes as a varint, unsigned and signed.

@@ -1,5 +1,6 @@
 // Values made from a seed, and checksums, as docs/ORACLE.md has them ("States", "Checksum").
 ghost use Prim.Native.Nat.{_<_};
+use crate::buffers;
 use crate::fields;
 
 // More values than a record has.
@@ -7,20 +8,20 @@ const VALUES: usize = 1024;
 
 const FNV_START: u64 = 14695981039346656037;
 
-fn low_half(x: u64) -> u64
+pub(crate) fn low_half(x: u64) -> u64
     ensures { λ r. ⌜ r < 4294967296 ⌝ }
 {
     x % 4294967296
 }
 
-fn high_half(x: u64) -> u64
+pub(crate) fn high_half(x: u64) -> u64
     ensures { λ r. ⌜ r < 4294967296 ⌝ }
 {
     x >> 32
 }
 
 // s times 6364136223846793005, which is 1481765933 times 2^32 and 1284865837 more, plus 1442695040888963407.
-fn next_state(s: u64) -> u64 {
+pub(crate) fn next_state(s: u64) -> u64 {
     let high = std::num::wrapping_add_u64(high_half(s) * 1284865837, low_half(s) * 1481765933);
     let product = std::num::wrapping_add_u64(low_half(s) * 1284865837, high << 32);
     std::num::wrapping_add_u64(product, 1442695040888963407)
@@ -45,11 +46,11 @@ fn add_byte(sum: u64, b: u64) -> u64 {
     std::num::wrapping_add_u64(high, std::num::wrapping_add_u64(middle, low))
 }
 
-// The checksum of the first n bytes of s.
-pub(crate) fn checksum(s: &[u8], n: usize) -> u64 {
+// The checksum of the n bytes of s at `at`.
+pub(crate) fn checksum(s: &[u8], at: usize, n: usize) -> u64 {
     let mut sum = FNV_START;
     for i in 0..n {
-        sum = add_byte(sum, fields::byte_at(s, 0, i) as u64);
+        sum = add_byte(sum, fields::byte_at(s, at, i) as u64);
     }
     sum
 }
@@ -61,6 +62,15 @@ pub(crate) fn checksum_of_values(values: &[u64; VALUES], n: usize) -> u64 {
         if i < n {
             sum = add_word(sum, values[i]);
         }
+    }
+    sum
+}
+
+// The checksum of the first n keys.
+pub(crate) fn checksum_of_keys(keys: &[i64], n: usize) -> u64 {
+    let mut sum = FNV_START;
+    for i in 0..n {
+        sum = add_word(sum, number::bits_of(buffers::key_at(keys, i)));
     }
     sum
 }

@@ -118,7 +118,7 @@ pub(crate) fn many_hold(r: &[u8]) -> bool {
     let length = u32_at(r, 16) as usize;
     r.len() == 36
         && answer_is(answer, 0, 0, length as u64)
-        && made::checksum(&out, length) == u64_at(r, 20)
+        && made::checksum(&out, 0, length) == u64_at(r, 20)
         && rest_is_old(&out, length)
         && many_back(&out, n, r)
 }
