@@ -26,6 +26,10 @@ const MOST_DISTINCT: usize = 16_384;
 const OLD: u8 = 0xa5;
 const SPARE: usize = 16;
 
+/// No chunk has more bytes a value, nor more before the first: a run's key and length, and a header with totals.
+const LONGEST: usize = 20;
+const HEADER: usize = 64;
+
 /// No row is to be below this.
 const WANTED: f64 = 0.8;
 
@@ -59,7 +63,8 @@ fn encode(column: &[i64], number: u32, out: &mut [u8]) -> ours::Answer {
     ours::encode(column, number, &mut vec![0; MOST_DISTINCT], out)
 }
 
-/// The original appends to a Vec that is emptied and keeps its room; ours fills a lent slice, and is lent a scratch.
+/// The original appends to a Vec that is emptied and keeps its room. Ours fills a lent slice, as long as a caller lends who does not know
+/// the chunk's length yet, and is lent a scratch.
 fn encode_row(
     column: &[i64],
     number: u32,
@@ -72,6 +77,7 @@ fn encode_row(
     assert_eq!(encode(column, number, &mut out), ours::accepted(chunk.len()));
     assert!(out[..chunk.len()] == *chunk && out[chunk.len()..] == [OLD; SPARE]);
     let mut scratch = vec![0; MOST_DISTINCT];
+    let mut out = vec![OLD; LONGEST * column.len() + HEADER];
     let mut bytes = chunk.to_vec();
     let times = alternate(
         options.rounds,
