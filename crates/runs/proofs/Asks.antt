@@ -17,7 +17,7 @@ use Rattle.format.specs.declared.Padded.{Padded}
 use Rattle.format.specs.declared.UvarintAnswer.the-variants.{Read, Malformed}
 use Rattle.format.specs.declared.ExtentAnswer.the-variants.{Ends, Malformed as MalformedExtent}
 use Rattle.varint.proofs.Answers.{answer-read, answer-malformed}
-use Rattle.runs.proofs.Shorts.{extent-read, extent-malformed}
+use Rattle.runs.proofs.Keys.{extent-read, extent-malformed}
 
 -- of n runs from `from` on `i` are read, and `done` values of count; the next begins at `at`
 pub record Asking (s : List ℕ) (from n count : ℕ) (before : Padded) (at i done : ℕ) (padded : Padded) : Type 0 where

@@ -1,5 +1,3 @@
 -- What the contracts of `runs` cite beside the definitions of `format`.
 pub mod RunAt
 pub mod Measured
-pub mod Passed
-pub mod Shorts

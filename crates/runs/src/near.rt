@@ -1,15 +1,17 @@
-// Reading the varints of runs. Most are short, and these are told here byte by byte, in functions that the compiler inlines: an
-// answer handed back through memory costs more than they do.
+// Reading the varints of runs: a key is mostly there and unpadded, and a length mostly has one byte. The functions here tell just
+// these cases, so that the compiler inlines them, and leave the others to the calls for any varint.
 ghost use mathlib.Core.Path.{_≡_};
-ghost use Prim.Native.Nat.{_+_, _%_, _≤_, _<_};
-ghost use lib.ListN.{length};
+ghost use mathlib.Core.Bool.{true};
+ghost use Prim.Native.Nat.{_<_};
 ghost use Rattle.format.specs.Parts.{extentAnswerOf};
 ghost use Rattle.format.specs.Standalone.{uvarintAnswer};
-ghost use Rattle.format.specs.Varint.{validateUvarints};
-ghost use Rattle.runs.specs.Shorts.{Short, shortValue, foundAt};
+ghost use Rattle.format.specs.Varint.{uvarintAt, validateUvarints};
+ghost use Rattle.format.specs.declared.ExtentAnswer.the-variants.{Ends};
+ghost use Rattle.format.specs.declared.Padded.{Padded};
 use format::ExtentAnswer;
 use format::Padded;
 use format::UvarintAnswer;
+use varint::find::uvarint_end;
 
 fn wide(b: u8) -> u64
     ensures { λ r. ⌜ (r ≡ b) × (r < 256) ⌝ }
@@ -17,14 +19,7 @@ fn wide(b: u8) -> u64
     b as u64
 }
 
-// A byte without its top bit.
-fn low(b: u8) -> u64
-    ensures { λ r. ⌜ r ≡ b % 128 ⌝ }
-{
-    wide(b) % 128
-}
-
-// A run's length: mostly of one byte.
+// A run's length.
 pub(crate) fn read_length(chunk: &[u8], at: usize) -> UvarintAnswer
     ensures { λ r. ⌜ r ≡ uvarintAnswer (now (chunk .entry)) at ⌝ }
 {
@@ -37,82 +32,27 @@ pub(crate) fn read_length(chunk: &[u8], at: usize) -> UvarintAnswer
     varint::read_uvarint(chunk, at)
 }
 
-// How many bytes a varint has: 1 to 3, or 0 where it is left to the call, since it has more, is padded or stands near the end.
-fn short_len(chunk: &[u8], at: usize) -> usize
-    ensures { λ r. ⌜ Short (now (chunk .entry)) at r ⌝ }
+// Whether a varint is there and unpadded: it has an end, and one byte or a last one that is not 0.
+fn tight(chunk: &[u8], at: usize, end: usize) -> bool
+    requires { ⌜ end ≡ uvarintAt (now chunk) at .next ⌝ }
+    ensures { λ r. ⌜ (r ≡ true → (padded : Padded) → Ends end padded ≡ extentAnswerOf (validateUvarints (now (chunk .entry)) at 1 padded)) ⌝ }
 {
-    if chunk.len() < 3 {
-        return 0;
+    if end == 0 {
+        return false;
     }
-    if chunk.len() - 3 < at {
-        return 0;
+    if chunk[end - 1] != 0 {
+        return true;
     }
-    if chunk[at] < 128 {
-        return 1;
-    }
-    let second = chunk[at + 1];
-    if second == 0 {
-        return 0;
-    }
-    if second < 128 {
-        return 2;
-    }
-    let third = chunk[at + 2];
-    if third == 0 {
-        return 0;
-    }
-    if third < 128 {
-        return 3;
-    }
-    0
-}
-
-// The value of a varint that has n bytes by `short_len`.
-fn short_value(chunk: &[u8], at: usize, n: usize) -> u64
-    requires { ⌜ at + 3 ≤ length (now chunk) ⌝ }
-    ensures { λ r. ⌜ r ≡ shortValue (now (chunk .entry)) at n ⌝ }
-{
-    if n == 1 {
-        return wide(chunk[at]);
-    }
-    if n == 2 {
-        return low(chunk[at]) + wide(chunk[at + 1]) * 128;
-    }
-    low(chunk[at]) + low(chunk[at + 1]) * 128 + wide(chunk[at + 2]) * 16384
+    end - at == 1
 }
 
 // The questions of a run's key, of which only the extent counts.
 pub(crate) fn settle_key(chunk: &[u8], at: usize, padded: Padded) -> ExtentAnswer
     ensures { λ r. ⌜ r ≡ extentAnswerOf (validateUvarints (now (chunk .entry)) at 1 padded) ⌝ }
 {
-    let short = short_len(chunk, at);
-    if short == 0 {
-        return codec::body::settle_uvarints(chunk, at, 1, padded);
+    let end = uvarint_end(chunk, at);
+    if tight(chunk, at, end) {
+        return ExtentAnswer::Ends(end, padded);
     }
-    ExtentAnswer::Ends(at + short, padded)
-}
-
-// A varint that was read before: its value, and the place after it.
-pub(crate) struct Found {
-    pub value: u64,
-    pub next: usize,
-}
-
-// A run's key.
-pub(crate) fn find_key(chunk: &[u8], at: usize) -> Found
-    ensures { λ r. ⌜ r ≡ foundAt (now (chunk .entry)) at ⌝ }
-{
-    let short = short_len(chunk, at);
-    if short == 0 {
-        let read = varint::read_uvarint(chunk, at);
-        let UvarintAnswer::Read(value, next, _) = read else {
-            return Found { value: 0, next: 0 };
-        };
-        return Found { value, next };
-    }
-    let value = short_value(chunk, at, short);
-    Found {
-        value,
-        next: at + short,
-    }
+    codec::body::settle_uvarints(chunk, at, 1, padded)
 }

@@ -1,14 +1,11 @@
 // Asking the questions of a body of runs, and filling the column from one that passed.
 ghost use mathlib.Core.Path.{_≡_};
-ghost use Prim.Native.Nat.{_+_, _-_, _≤_};
+ghost use Prim.Native.Nat.{_-_, _≤_};
 ghost use lib.Dec.{ltb};
-ghost use lib.ListN.{length, replicate};
-ghost use lib.Seq.{sets};
+ghost use lib.ListN.{length};
 ghost use Rattle.format.specs.Answers.{stored};
 ghost use Rattle.format.specs.Parts.{extentAnswerOf};
-ghost use Rattle.format.specs.Runs.{validateRuns, validateRunLength, runValues, runLengthValues};
-ghost use Rattle.runs.specs.Passed.{RunsPass, BodyPasses};
-use crate::near::find_key;
+ghost use Rattle.format.specs.Runs.{validateRuns, validateRunLength, runLengthValues};
 use crate::near::read_length;
 use crate::near::settle_key;
 use codec::body::first_padded;
@@ -16,6 +13,8 @@ use codec::body::malformed;
 use format::ExtentAnswer;
 use format::Padded;
 use format::UvarintAnswer;
+use keys::fill_keys;
+use varint::find::find_any;
 
 // Whether a run has more values than are left. A damaged length can be near 2^64, so it is compared and not added first.
 fn above_rest(times: u64, done: usize, count: usize) -> bool
@@ -74,43 +73,11 @@ pub(crate) fn settle_body(chunk: &[u8], start: usize, count: usize, padded: Padd
     )
 }
 
-// Stores a key `times` times from `at` on.
-fn fill_run(column: &mut [i64], at: usize, times: usize, key: i64)
-    requires { ⌜ at + times ≤ length (now column) ⌝ }
-    ensures { λ _. ⌜ now (column .exit) ≡ sets (now (column .entry)) at (replicate times key) ⌝ }
-{
-    for i in 0..times {
-        column[at + i] = key;
-    }
-}
-
-// Stores the values of n runs that passed from the front of the column on. No varint is refused here, since none was.
-fn fill_runs(chunk: &[u8], start: usize, n: usize, column: &mut [i64])
-    requires { ⌜ RunsPass (now chunk) start n × (length (runValues (now chunk) start n) ≤ length (now column)) ⌝ }
-    ensures { λ _. ⌜ now (column .exit) ≡ sets (now (column .entry)) 0 (runValues (now (chunk .entry)) start n) ⌝ }
-{
-    let mut from = start;
-    let mut at = 0;
-    for _ in 0..n {
-        let key = find_key(chunk, from);
-        let length = read_length(chunk, key.next);
-        let UvarintAnswer::Read(times, next, _) = length else {
-            return;
-        };
-        fill_run(column, at, times as usize, number::zigzag_decode(key.value));
-        at += times as usize;
-        from = next;
-    }
-}
-
-// Fills the column's front from a body that passed.
+// Fills the column's front from a body.
 pub(crate) fn fill(chunk: &[u8], start: usize, column: &mut [i64])
-    requires { ⌜ BodyPasses (now chunk) start × (length (runLengthValues (now chunk) start) ≤ length (now column)) ⌝ }
+    requires { ⌜ length (runLengthValues (now chunk) start) ≤ length (now column) ⌝ }
     ensures { λ _. ⌜ now (column .exit) ≡ stored (runLengthValues (now (chunk .entry)) start) (now (column .entry)) ⌝ }
 {
-    let total = varint::read_uvarint(chunk, start);
-    let UvarintAnswer::Read(n, next, _) = total else {
-        return;
-    };
-    fill_runs(chunk, next, n as usize, column);
+    let total = find_any(chunk, start);
+    fill_keys(chunk, total.next, total.value as usize, true, column);
 }

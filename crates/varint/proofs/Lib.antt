@@ -6,3 +6,4 @@ pub mod FromWord
 pub mod Writing
 pub mod Answers
 pub mod Laws
+pub mod Finding

@@ -27,19 +27,19 @@ use Rattle.varint.specs.Reading.{Reading}
 -- ---- the walk to the end, from a place on: no byte, one too many, the last, or one more
 
 module _ (s : List ℕ) (start at : ℕ) where
-  end-none : (left : ℕ) → length s ≤ at → uvarintEnd start left (drop at s) at ≡ refused 6 start
+  pub end-none : (left : ℕ) → length s ≤ at → uvarintEnd start left (drop at s) at ≡ refused 6 start
   unfolding uvarintEnd
   end-none left h = rw (drop-of-length-le s h)
 
-  end-eleventh : at < length s → uvarintEnd start 0 (drop at s) at ≡ refused 7 start
+  pub end-eleventh : at < length s → uvarintEnd start 0 (drop at s) at ≡ refused 7 start
   unfolding uvarintEnd
   end-eleventh h = rw (drop-cons s at 0)
 
-  end-last : (left : ℕ) → at < length s → getD s at 0 < 128 → uvarintEnd start (suc left) (drop at s) at ≡ ok (at + 1)
+  pub end-last : (left : ℕ) → at < length s → getD s at 0 < 128 → uvarintEnd start (suc left) (drop at s) at ≡ ok (at + 1)
   unfolding uvarintEnd
   end-last left h b = rw (drop-cons s at 0, lt-ltb (getD s at 0) 128)
 
-  end-more : (left : ℕ) → at < length s → 128 ≤ getD s at 0 → uvarintEnd start (suc left) (drop at s) at ≡ uvarintEnd start left (drop (at + 1) s) (at + 1)
+  pub end-more : (left : ℕ) → at < length s → 128 ≤ getD s at 0 → uvarintEnd start (suc left) (drop at s) at ≡ uvarintEnd start left (drop (at + 1) s) (at + 1)
   unfolding uvarintEnd
   end-more left h b = rw (drop-cons s at 0, le-ltb (getD s at 0) 128, add-one)
 

@@ -13,6 +13,7 @@ use format::Answer;
 use format::UvarintAnswer;
 use format::VarintAnswer;
 
+pub mod find;
 pub(crate) mod long;
 pub(crate) mod words;
 

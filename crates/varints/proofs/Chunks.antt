@@ -1,11 +1,11 @@
 -- A Varint chunk from its parts: the laws of `codec` on writing and reading, with Varint's body, its questions and its values.
 use mathlib.Core.Path.{_≡_, refl, sym, ap, _∙_}
-use mathlib.Core.Bool.{Bool}
+use mathlib.Core.Bool.{Bool, false}
 use mathlib.Core.List.{List}
 use Prim.Native.Nat.{ℕ, _+_, _≤_, _<_}
 use native.Mathlib.Omega.{arith}
 use lib.IntN.{ℤ}
-use lib.ListN.{length}
+use lib.ListN.{length, take}
 use lib.Seq.{sets}
 use borrow.Author.Tests.{le-leb}
 use Rattle.format.specs.Outcome.{Outcome}
@@ -16,7 +16,7 @@ use Rattle.format.specs.Header.{headerBytes, headerLen, named}
 use Rattle.format.specs.Parts.{headerAnswer, extentAnswerOf, settled}
 use Rattle.format.specs.Read.{readAnswer, readColumn}
 use Rattle.format.specs.Varint.{Extent, validateUvarints}
-use Rattle.format.specs.VarintBody.{varintBody, varintBodyValues, validateVarintBody}
+use Rattle.format.specs.VarintBody.{varintBody, validateVarintBody}
 use Rattle.format.specs.declared.Answer.{Answer}
 use Rattle.format.specs.declared.Answer.the-variants.{Accepted, Refused}
 use Rattle.format.specs.declared.Encoding.the-variants.{Varint}
@@ -26,9 +26,10 @@ use Rattle.format.specs.declared.Padded.{Padded}
 use Rattle.format.proofs.codecs.Header.{length-headerBytes}
 use Rattle.codec.specs.Places.{fitting, laid, laidEnd}
 use Rattle.codec.specs.Refusals.{outcomeOf}
-use Rattle.codec.proofs.Reading.{outcome-back, read-answer, read-untouched, read-filled, read-count, read-room, read-valid}
+use Rattle.keys.specs.Rows.{keyRows}
+use Rattle.keys.proofs.Bodies.{all-alone}
+use Rattle.codec.proofs.Reading.{outcome-back, read-answer, read-untouched, read-filled, read-count, read-room}
 use Rattle.codec.proofs.Writing.{Written, body-room, chunk-stored, write-short, write-done}
-use Rattle.varints.specs.Readable.{Readable}
 
 -- ---- writing
 
@@ -83,15 +84,14 @@ module _ (strict : Bool) (s : List ℕ) (column : List ℤ) {header : HeaderAnsw
       unfolding validateBody validateVarintBody
       counted = read-count Varint strict s column h found refl asked r
 
-      -- every varint can be read, and there is room
-      pub read-inside : Readable s start n × (n ≤ length column)
+      -- there is room
+      inside : n ≤ length column
       unfolding validateBody validateVarintBody
-      read-inside =
-          let valid = read-valid Varint strict s column h found refl asked r in
-          rw counted (record { padded = padded; extent = valid .0; passed = valid .1 }, read-room Varint strict s column h found refl asked r)
+      inside = rw counted (read-room Varint strict s column h found refl asked r)
 
-      pub read-done : {out : List ℤ} → out ≡ stored (varintBodyValues s start n) column
+      pub read-done : {out : List ℤ} → out ≡ stored (take (length column) (keyRows false s start n)) column
           → (Accepted n ≡ readAnswer strict (named 2) s (length column)) × (out ≡ readColumn strict (named 2) s column)
       unfolding validateBody validateVarintBody bodyValues
       read-done done =
-          (sym r ∙ read-answer Varint strict s column h found refl asked, read-filled Varint strict s column h found refl asked r (rw counted at done))
+          let all = rw (all-alone s start n (length column) inside) at done in
+          (sym r ∙ read-answer Varint strict s column h found refl asked, read-filled Varint strict s column h found refl asked r (rw counted at all))

@@ -4,17 +4,15 @@ ghost use mathlib.Core.Bool.{true, false};
 ghost use Prim.Native.Nat.{ℕ, _+_, _≤_};
 ghost use lib.ListN.{length};
 ghost use lib.Seq.{sets};
-ghost use Rattle.format.specs.Answers.{stored};
 ghost use Rattle.format.specs.Encodings.{maxChunkElements};
 ghost use Rattle.format.specs.Header.{named};
 ghost use Rattle.format.specs.Parts.{settled};
 ghost use Rattle.format.specs.Read.{readAnswer, readColumn};
-ghost use Rattle.format.specs.Standalone.{varintAnswer};
 ghost use Rattle.format.specs.Varint.{validateUvarints};
-ghost use Rattle.format.specs.VarintBody.{varintBody, varintBodyValues};
+ghost use Rattle.format.specs.VarintBody.{varintBody};
 ghost use Rattle.format.specs.Write.{writeAnswer, writeOutput};
 ghost use Rattle.codec.specs.Refusals.{outcomeOf};
-ghost use Rattle.varints.specs.Readable.{Readable, Passes};
+ghost use Rattle.varints.specs.Readable.{Passes};
 use crate::lengths::lacking;
 use crate::scan::readable;
 use codec::body::settle;
@@ -28,8 +26,8 @@ use format::Encoding;
 use format::ExtentAnswer;
 use format::HeaderAnswer;
 use format::Padded;
-use format::VarintAnswer;
 use format::limits::MAX_CHUNK_ELEMENTS;
+use keys::fill_keys;
 
 pub(crate) mod lengths;
 pub(crate) mod scan;
@@ -77,37 +75,6 @@ fn settle_body(
     settle_uvarints(chunk, start, count, padded)
 }
 
-// `varint::read_varint`, with its commonest case here: a varint of one byte needs no call.
-fn read_key(chunk: &[u8], at: usize) -> VarintAnswer
-    ensures { λ r. ⌜ r ≡ varintAnswer (now (chunk .entry)) at ⌝ }
-{
-    if chunk.len() <= at {
-        return VarintAnswer::Malformed(format::refusal::VARINT_CUT, at);
-    }
-    let byte = chunk[at];
-    if byte < 128 {
-        return VarintAnswer::Read(number::zigzag_decode(byte as u64), at + 1, true);
-    }
-    varint::read_varint(chunk, at)
-}
-
-// Stores the `count` values of a body that starts at `start` to the front of `column`. Each varint was read before, so none is
-// refused here.
-fn fill(chunk: &[u8], start: usize, count: usize, column: &mut [i64])
-    requires { ⌜ Readable (now chunk) start count × (count ≤ length (now column)) ⌝ }
-    ensures { λ _. ⌜ now (column .exit) ≡ stored (varintBodyValues (now (chunk .entry)) start count) (now (column .entry)) ⌝ }
-{
-    let mut at = start;
-    for i in 0..count {
-        let read = read_key(chunk, at);
-        let VarintAnswer::Read(key, next, _) = read else {
-            return;
-        };
-        column[i] = key;
-        at = next;
-    }
-}
-
 // Writes a column as a chunk to the front of `out`.
 pub fn encode(column: &[i64], out: &mut [u8]) -> Answer
     ensures { λ r. ⌜ r ≡ writeAnswer 2 (now (column .entry)) 0 (length (now (out .entry))) ⌝ }
@@ -138,6 +105,6 @@ pub fn decode(chunk: &[u8], strict: bool, column: &mut [i64]) -> Answer
     let Answer::Accepted(n) = answer else {
         return answer;
     };
-    fill(chunk, start, n, column);
+    fill_keys(chunk, start, n, false, column);
     answer
 }

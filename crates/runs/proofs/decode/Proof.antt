@@ -4,8 +4,8 @@ use mathlib.Core.Path.{_∙_}
 use borrow.Author.Needs.{needs}
 use Rattle.format.specs.Chunk.{validateBody, bodyValues}
 use Rattle.format.specs.declared.Encoding.the-variants.{RunLength}
+use Rattle.format.proofs.codecs.Counts.{runLength-count}
 use Rattle.codec.proofs.Reading.{read-malformed, read-answer, read-untouched, read-filled, read-room, read-valid}
-use Rattle.runs.proofs.Fills.{body-fills}
 use Rattle.runs.proofs.decode.Statement.{statement}
 use Rattle.runs.proofs.decode.Tie as tie
 
@@ -41,9 +41,8 @@ fill-requires c κs =
     let f = header .header .given .1 in
     let b = settled .before .settle-body .ensures in
     let accepted = c .before .enum-told2 .given .1 in
-    body-fills (a .chunk .now) _ _ _
-    (read-valid RunLength (a .strict) (a .chunk .now) (a .column .now) h f b (settled .settle .ensures) accepted .1)
-    (read-room RunLength (a .strict) (a .chunk .now) (a .column .now) h f b (settled .settle .ensures) accepted)
+    let valid = read-valid RunLength (a .strict) (a .chunk .now) (a .column .now) h f b (settled .settle .ensures) accepted .1 in
+    rw (runLength-count (a .chunk .now) _ _ _ valid) (read-room RunLength (a .strict) (a .chunk .now) (a .column .now) h f b (settled .settle .ensures) accepted)
 
 returns-3 : tie.Need-returns-3
 unfolding validateBody bodyValues

@@ -7,7 +7,7 @@ use Rattle.format.specs.Parts.{settled}
 use Rattle.format.specs.Varint.{validateUvarints}
 use Rattle.format.specs.declared.Encoding.the-variants.{Varint}
 use Rattle.codec.proofs.Reading.{read-malformed, read-few, read-start}
-use Rattle.varints.proofs.Chunks.{read-refused, read-inside, read-done}
+use Rattle.varints.proofs.Chunks.{read-refused, read-done}
 use Rattle.varints.proofs.decode.Statement.{statement}
 use Rattle.varints.proofs.decode.Tie as tie
 
@@ -38,21 +38,13 @@ returns-2 c =
     let h = s .before .before .before .before .before .read-header .ensures in
     read-refused (a .strict) (a .chunk .now) (a .column .now) h (s .before .before .before .header .given .1) (asked s) (c .enum-told2 .given .1)
 
-fill-requires : tie.Need-fill-requires
-fill-requires c κs =
-    let s = c .before .before .before .before in
-    let a = s .before .before .before .before .before .before .before .args in
-    let h = s .before .before .before .before .before .read-header .ensures in
-    read-inside (a .strict) (a .chunk .now) (a .column .now) h (s .before .before .before .header .given .1) (asked s)
-    (c .before .before .answer .given .1)
-
 returns-3 : tie.Need-returns-3
 returns-3 c =
     let s = c .before .before .before .before .before .before in
     let a = s .before .before .before .before .before .before .before .args in
     let h = s .before .before .before .before .before .read-header .ensures in
     read-done (a .strict) (a .chunk .now) (a .column .now) h (s .before .before .before .header .given .1) (asked s)
-    (c .before .before .before .before .answer .given .1) (c .before .fill .ensures)
+    (c .before .before .before .before .answer .given .1) (c .before .fill-keys .ensures)
 
 pub decode-spec : {M : Type 1} → statement M
 decode-spec =
@@ -68,6 +60,6 @@ decode-spec =
     (λ c. search needs)
     (λ c. search needs)
     returns-2
-    fill-requires
+    (λ c κs. search needs)
     (λ c. search needs)
     returns-3)

@@ -1,29 +1,27 @@
--- `runs::reading::fill` meets its contract: the total is found again, and the values of so many runs are the body's.
-use mathlib.Core.Path.{sym, _∙_}
+-- `runs::reading::fill` meets its contract: the values of so many runs as the total says are the body's, and there is room for them.
+use mathlib.Core.Path.{_≡_}
+use mathlib.Core.List.{List}
+use Prim.Native.Nat.{ℕ}
+use lib.ListN.{length}
 use borrow.Author.Needs.{needs}
-use Rattle.runs.proofs.Fills.{total-found, runs-passed, values-fit, values-stored}
+use Rattle.format.specs.Runs.{runValues, runLengthValues}
+use Rattle.varint.specs.Finding.{foundAt}
+use Rattle.varint.specs.declared.find.Found.{Found}
+use Rattle.keys.proofs.Bodies.{all-run}
 use Rattle.runs.proofs.reading.fill.Statement.{statement}
 use Rattle.runs.proofs.reading.fill.Tie as tie
 
+values-are : (s : List ℕ) (start : ℕ) {total : Found} → total ≡ foundAt s start → runLengthValues s start ≡ runValues s (total .next) (total .value)
+unfolding runLengthValues
+values-are s start e = rw e
+
 returns : tie.Need-returns
 returns c =
-    let start = c .before .before .before .before in
-    absurd (total-found (start .pre .0) (sym (c .before .before .read-uvarint .ensures) ∙ c .enum-told .given .1))
-
-fill-runs-requires : tie.Need-fill-runs-requires
-fill-runs-requires c κs =
-    let total = c .before .before in
-    let start = total .before .before .before .before in
-    let told = sym (total .before .before .read-uvarint .ensures) ∙ total .total .given .1 in
-    (runs-passed (start .pre .0) told, values-fit (start .pre .0) told (start .pre .1))
-
-returns-2 : tie.Need-returns-2
-returns-2 c =
-    let total = c .before .before .before .before in
-    let start = total .before .before .before .before in
-    values-stored (start .pre .0) (sym (total .before .before .read-uvarint .ensures) ∙ total .total .given .1) _ (start .pre .1) (c .before .fill-runs .ensures)
+    let found = c .before .before .before in
+    let a = found .before .before .args in
+    let values = values-are (a .chunk .now) (a .start) (found .find-any .ensures) in
+    let all = all-run (a .chunk .now) _ _ (length (a .column .now)) (rw values at (found .before .before .pre)) in
+    rw values (rw all at (c .before .fill-keys .ensures))
 
 pub fill-spec : {M : Type 1} → statement M
-fill-spec =
-    tie.close
-    (tie.spec (λ c κs. search needs) (λ c. search needs) (λ c. search needs) returns fill-runs-requires (λ c. search needs) returns-2)
+fill-spec = tie.close (tie.spec (λ c κs. search needs) (λ c κs. search needs) (λ c. search needs) returns)

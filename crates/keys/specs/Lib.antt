@@ -1,0 +1,2 @@
+-- What the contracts of `keys` cite beside the definitions of `format`.
+pub mod Rows

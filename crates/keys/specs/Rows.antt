@@ -1,0 +1,22 @@
+-- Keys in a row, with lengths or without (01, "The chunk": Varint, "one signed varint each"; RunLength, "per run a signed varint and a length").
+use mathlib.Core.Bool.{Bool, true, false}
+use mathlib.Core.List.{List, [], _++_}
+use Prim.Native.Nat.{ℕ, zero, suc}
+use lib.IntN.{ℤ}
+use lib.ListN.{replicate}
+use Rattle.format.specs.Keys.{unzigzag}
+use Rattle.varint.specs.Finding.{foundAt}
+use Rattle.varint.specs.declared.find.Found.{Found}
+
+-- how often a key stands that ends at `at`, and the place after that
+abbrev pub timesAfter : Bool → List ℕ → ℕ → Found
+timesAfter true s at = foundAt s at
+timesAfter false s at = record { value = 1; next = at }
+
+-- the values of n keys from `at` on
+unfoldable pub keyRows : Bool → List ℕ → ℕ → ℕ → List ℤ
+keyRows lengths s at zero = []
+keyRows lengths s at (suc n) =
+    let key = foundAt s at in
+    let times = timesAfter lengths s (key .next) in
+    replicate (times .value) (unzigzag (key .value)) ++ keyRows lengths s (times .next) n
