@@ -1,20 +1,15 @@
 // Buffers lent to the port: what they hold before a call, and what they hold after it.
+use crate::fields::after;
 use crate::fields::u64_at;
 
 // What a buffer of keys, or of bytes, holds before a call.
-const OLD_KEY: i64 = 0x5a5a_5a5a_5a5a_5a5a;
+pub(crate) const OLD_KEY: i64 = 0x5a5a_5a5a_5a5a_5a5a;
 
-const OLD_BYTE: u8 = 0xa5;
+pub(crate) const OLD_BYTE: u8 = 0xa5;
 
 pub(crate) fn fill_keys(keys: &mut [i64]) {
     for i in 0..keys.len() {
         keys[i] = OLD_KEY;
-    }
-}
-
-pub(crate) fn fill_bytes(bytes: &mut [u8]) {
-    for i in 0..bytes.len() {
-        bytes[i] = OLD_BYTE;
     }
 }
 
@@ -67,7 +62,7 @@ pub(crate) fn keys_are_stored(keys: &[i64], r: &[u8], at: usize, n: usize) -> bo
         if number::bits_of(key_at(keys, i)) != u64_at(r, place) {
             return false;
         }
-        place = std::num::wrapping_add_usize(place, 8);
+        place = after(place, 8);
     }
     true
 }
@@ -77,6 +72,6 @@ pub(crate) fn load_keys(r: &[u8], at: usize, keys: &mut [i64]) {
     let mut place = at;
     for i in 0..keys.len() {
         keys[i] = number::of_bits(u64_at(r, place));
-        place = std::num::wrapping_add_usize(place, 8);
+        place = after(place, 8);
     }
 }

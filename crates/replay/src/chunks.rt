@@ -1,18 +1,19 @@
 // The original Rust's answers on reading chunks, replayed: data/chunks.bin. docs/ORACLE.md says what a record of each kind holds.
 ghost use Prim.Native.Nat.{_<_, _≤_};
 use crate::buffers;
+use crate::fields::after;
 use crate::fields::answer_is;
 use crate::fields::u8_at;
 use crate::fields::u16_at;
 use crate::fields::u32_at;
-use crate::fields::u64_at;
-use crate::made;
+use crate::made::keys_told;
 use crate::records::COUNTS;
+use crate::records::WRONG;
 use crate::records::counted;
+use crate::records::place_of;
 use crate::text;
 use format::Answer;
 use format::refusal::BUFFER_TOO_SHORT;
-use std::num::wrapping_add_usize;
 
 // The name of a reading that names no encoding.
 pub(crate) const UNNAMED: u32 = 0;
@@ -37,15 +38,18 @@ pub(crate) fn holds(kind: usize, record: &[u8], held: &mut [u64; COUNTS]) -> boo
     }
 }
 
-pub(crate) fn report(held: &[u64; COUNTS]) {
-    text::count(b"chunks, their values stored: ", held[1]);
-    text::count(b"chunks, a checksum of their values stored: ", held[2]);
-    text::count(b"readings accepted: ", held[ACCEPTED]);
-    text::count(b"readings refused: ", held[REFUSED]);
-    text::count(
-        b"readings of 2^24 values, refused for our shorter column alone: ",
-        held[LARGE],
-    );
+pub(crate) fn report(place: usize, n: u64) {
+    match place {
+        1 => text::count(b"chunks, their values stored: ", n),
+        2 => text::count(b"chunks, a checksum of their values stored: ", n),
+        ACCEPTED => text::count(b"readings accepted: ", n),
+        REFUSED => text::count(b"readings refused: ", n),
+        LARGE => text::count(
+            b"readings of 2^24 values, refused for our shorter column alone: ",
+            n,
+        ),
+        _ => {}
+    }
 }
 
 fn few_hold(r: &[u8], held: &mut [u64; COUNTS]) -> bool {
@@ -89,44 +93,32 @@ pub(crate) fn read(chunk: &[u8], name: u32, strict: bool, column: &mut [i64]) ->
 // The eight readings: the unnamed one, and one by each encoding.
 fn readings_hold(r: &[u8], is_stored: bool, column: &mut [i64], held: &mut [u64; COUNTS]) -> bool {
     for name in 0..8 {
-        if !reading_holds(r, name, is_stored, column, held) {
+        if !counted(held, reading(r, name, is_stored, column)) {
             return false;
         }
     }
     true
 }
 
-fn reading_holds(
-    r: &[u8],
-    name: u32,
-    is_stored: bool,
-    column: &mut [i64],
-    held: &mut [u64; COUNTS],
-) -> bool {
+// Where the reading counts.
+fn reading(r: &[u8], name: u32, is_stored: bool, column: &mut [i64]) -> usize {
     let end = chunk_end(r);
     if r.len() < end {
-        return false;
+        return WRONG;
     }
     buffers::fill_keys(column);
     let answer = read(&r[3..end], name, false, column);
-    let told = answer_at(r, end, name);
-    let number = u8_at(r, wrapping_add_usize(told, 1));
-    if number == 0 {
-        return accepted_holds(answer, r, is_stored, column, held);
-    }
-    let offset = u32_at(r, wrapping_add_usize(told, 2)) as u64;
-    let is_right = answer_is(answer, number, offset, 0) && buffers::keys_are_old(column, 0);
-    counted(held, REFUSED, is_right)
+    told(answer, r, answer_at(r, end, name), is_stored, column)
 }
 
 // The place of the Rust's answer to a reading: of the answers after the chunk, the one that has its bit.
 fn answer_at(r: &[u8], end: usize, name: u32) -> usize {
-    let mut at = wrapping_add_usize(end, 1);
+    let mut at = after(end, 1);
     for _ in 0..u8_at(r, end) {
         if has_bit(u8_at(r, at), name) {
             return at;
         }
-        at = wrapping_add_usize(at, 6);
+        at = after(at, 6);
     }
     at
 }
@@ -138,32 +130,31 @@ fn has_bit(mask: u64, bit: u32) -> bool {
     (mask >> bit) & 1 == 1
 }
 
+// Is the answer the one at `at`?
+fn told(answer: Answer, r: &[u8], at: usize, is_stored: bool, column: &[i64]) -> usize {
+    let number = u8_at(r, after(at, 1));
+    if number == 0 {
+        return accepted(answer, r, is_stored, column);
+    }
+    let offset = u32_at(r, after(at, 2)) as u64;
+    place_of(REFUSED, refused_holds(answer, number, offset, column))
+}
+
+fn refused_holds(answer: Answer, number: u64, offset: u64, column: &[i64]) -> bool {
+    answer_is(answer, number, offset, 0) && buffers::keys_are_old(column, 0)
+}
+
 // The front of the buffer has the values, and the rest is as it was. A column of 2^24 values is more than a program's stack
 // holds: there the port must refuse the buffer, with that length, which it does only when the chunk has passed every other
 // question.
-fn accepted_holds(
-    answer: Answer,
-    r: &[u8],
-    is_stored: bool,
-    column: &[i64],
-    held: &mut [u64; COUNTS],
-) -> bool {
+fn accepted(answer: Answer, r: &[u8], is_stored: bool, column: &[i64]) -> usize {
     let count = count_of(r) as usize;
     if count > column.len() {
-        let is_right = answer_is(answer, BUFFER_TOO_SHORT as u64, count as u64, 0)
-            && buffers::keys_are_old(column, 0);
-        return counted(held, LARGE, is_right);
+        let is_right = refused_holds(answer, BUFFER_TOO_SHORT as u64, count as u64, column);
+        return place_of(LARGE, is_right);
     }
     let is_right = answer_is(answer, 0, 0, count as u64)
-        && values_hold(r, is_stored, column, count)
+        && keys_told(column, r, is_stored, count_at(r) + 4, count)
         && buffers::keys_are_old(column, count);
-    counted(held, ACCEPTED, is_right)
-}
-
-fn values_hold(r: &[u8], is_stored: bool, column: &[i64], count: usize) -> bool {
-    let at = count_at(r) + 4;
-    if is_stored {
-        return buffers::keys_are_stored(column, r, at, count);
-    }
-    made::checksum_of_keys(column, count) == u64_at(r, at)
+    place_of(ACCEPTED, is_right)
 }

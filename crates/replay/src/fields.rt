@@ -13,6 +13,11 @@ pub(crate) fn byte_at(s: &[u8], at: usize, i: usize) -> u8 {
     0
 }
 
+// The place n bytes after `at`.
+pub(crate) fn after(at: usize, n: usize) -> usize {
+    std::num::wrapping_add_usize(at, n)
+}
+
 fn wide(b: u8) -> u64
     ensures { λ r. ⌜ r < 256 ⌝ }
 {

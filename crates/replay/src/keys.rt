@@ -1,5 +1,6 @@
 // The keys of a described column, by the formula that docs/ORACLE.md has ("columns.bin", kind 2).
 ghost use Prim.Native.Nat.{_<_};
+use crate::fields::after;
 use crate::fields::u64_at;
 use crate::made::high_half;
 use crate::made::low_half;
@@ -23,20 +24,16 @@ struct Formula {
 fn formula_at(r: &[u8], at: usize) -> Formula {
     Formula {
         start: u64_at(r, at),
-        step: u64_at(r, field(at, 8)),
-        every: u64_at(r, field(at, 16)),
-        factor: u64_at(r, field(at, 24)),
-        wrap: u64_at(r, field(at, 32)),
-        seed: u64_at(r, field(at, 40)),
-        shift: u64_at(r, field(at, 48)),
-        modulus: u64_at(r, field(at, 56)),
-        rare: u64_at(r, field(at, 64)),
-        other: u64_at(r, field(at, 72)),
+        step: u64_at(r, after(at, 8)),
+        every: u64_at(r, after(at, 16)),
+        factor: u64_at(r, after(at, 24)),
+        wrap: u64_at(r, after(at, 32)),
+        seed: u64_at(r, after(at, 40)),
+        shift: u64_at(r, after(at, 48)),
+        modulus: u64_at(r, after(at, 56)),
+        rare: u64_at(r, after(at, 64)),
+        other: u64_at(r, after(at, 72)),
     }
-}
-
-fn field(at: usize, n: usize) -> usize {
-    std::num::wrapping_add_usize(at, n)
 }
 
 // Puts the keys of the formula at `at` into a buffer, as many as it holds.

@@ -1,13 +1,14 @@
 // The original Rust's answers on numbers, varints and packing, replayed: data/leaves.bin. docs/ORACLE.md says what a record of
 // each kind holds.
+use crate::fields::after;
 use crate::fields::answer_is;
 use crate::fields::same_bytes;
 use crate::fields::u8_at;
 use crate::fields::u16_at;
 use crate::fields::u64_at;
 use crate::packing;
-use crate::records::COUNTS;
 use crate::text;
+use format::Answer;
 use format::UvarintAnswer;
 use format::VarintAnswer;
 
@@ -23,13 +24,16 @@ pub(crate) fn holds(kind: usize, record: &[u8]) -> bool {
     }
 }
 
-pub(crate) fn report(held: &[u64; COUNTS]) {
-    text::count(b"numbers: ", held[1]);
-    text::count(b"varints read: ", held[2]);
-    text::count(b"packings: ", held[3]);
-    text::count(b"unpackings: ", held[4]);
-    text::count(b"packed lengths: ", held[5]);
-    text::count(b"packings of many values, and back: ", held[6]);
+pub(crate) fn report(place: usize, n: u64) {
+    match place {
+        1 => text::count(b"numbers: ", n),
+        2 => text::count(b"varints read: ", n),
+        3 => text::count(b"packings: ", n),
+        4 => text::count(b"unpackings: ", n),
+        5 => text::count(b"packed lengths: ", n),
+        6 => text::count(b"packings of many values, and back: ", n),
+        _ => {}
+    }
 }
 
 // Kind 1: a number's ZigZag both ways, its width, its length and bytes as a varint, unsigned and signed.
@@ -47,19 +51,20 @@ fn number_holds(r: &[u8]) -> bool {
 fn uvarint_holds(x: u64, r: &[u8]) -> bool {
     let mut out = [0u8; 10];
     let answer = varint::write_uvarint(x, &mut out);
-    let length = u8_at(r, 25);
-    varint::uvarint_len(x) as u64 == length
-        && answer_is(answer, 0, 0, length)
-        && same_bytes(&out, 0, r, 26, 10)
+    written_holds(answer, varint::uvarint_len(x), &out, r, 25)
 }
 
 fn varint_holds(v: i64, r: &[u8]) -> bool {
     let mut out = [0u8; 10];
     let answer = varint::write_varint(v, &mut out);
-    let length = u8_at(r, 36);
-    varint::varint_len(v) as u64 == length
-        && answer_is(answer, 0, 0, length)
-        && same_bytes(&out, 0, r, 37, 10)
+    written_holds(answer, varint::varint_len(v), &out, r, 36)
+}
+
+// Has the record this length at `at`, and behind it what was written?
+fn written_holds(answer: Answer, length: usize, out: &[u8; 10], r: &[u8], at: usize) -> bool {
+    u8_at(r, at) == length as u64
+        && answer_is(answer, 0, 0, length as u64)
+        && same_bytes(out, 0, r, after(at, 1), 10)
 }
 
 // Kind 2: reading at a place, unsigned and signed.

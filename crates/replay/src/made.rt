@@ -67,12 +67,20 @@ pub(crate) fn checksum_of_values(values: &[u64; VALUES], n: usize) -> u64 {
 }
 
 // The checksum of the first n keys.
-pub(crate) fn checksum_of_keys(keys: &[i64], n: usize) -> u64 {
+fn checksum_of_keys(keys: &[i64], n: usize) -> u64 {
     let mut sum = FNV_START;
     for i in 0..n {
         sum = add_word(sum, number::bits_of(buffers::key_at(keys, i)));
     }
     sum
+}
+
+// Are the first n keys those that a record has at `at`, or have they the checksum that it has there?
+pub(crate) fn keys_told(keys: &[i64], r: &[u8], is_stored: bool, at: usize, n: usize) -> bool {
+    if is_stored {
+        return buffers::keys_are_stored(keys, r, at, n);
+    }
+    checksum_of_keys(keys, n) == fields::u64_at(r, at)
 }
 
 fn add_word(sum: u64, x: u64) -> u64 {

@@ -14,6 +14,7 @@ mod made;
 mod packing;
 mod records;
 mod text;
+mod written;
 
 use records::File;
 
@@ -21,14 +22,16 @@ use records::File;
 const ROOM: usize = 262144;
 
 fn main() {
-    let mut room = [0u8; ROOM];
-    let leaves = load(b"leaves.bin", &mut room);
-    records::replay(File::Leaves, &room[..leaves]);
-    let columns = load(b"columns.bin", &mut room);
-    records::replay(File::Columns, &room[..columns]);
-    let chunks = load(b"chunks.bin", &mut room);
-    records::replay(File::Chunks, &room[..chunks]);
+    replay(b"leaves.bin", File::Leaves);
+    replay(b"columns.bin", File::Columns);
+    replay(b"chunks.bin", File::Chunks);
     entries::run();
+}
+
+fn replay(path: &[u8], which: File) {
+    let mut room = [0u8; ROOM];
+    let length = load(path, &mut room);
+    records::replay(which, &room[..length]);
 }
 
 // Reads a file and answers its length; 0, and says so, where it cannot be opened.

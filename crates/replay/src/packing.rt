@@ -1,6 +1,7 @@
 // The original Rust's answers on packing, kinds 3 to 6 of data/leaves.bin.
 ghost use mathlib.Core.Path.{_≡_};
 ghost use lib.ListN.{length};
+use crate::fields::after;
 use crate::fields::answer_is;
 use crate::fields::same_bytes;
 use crate::fields::u8_at;
@@ -35,7 +36,7 @@ fn values_at(r: &[u8], at: usize) -> [u64; VALUES] {
     let mut place = at;
     for i in 0..VALUES {
         values[i] = u64_at(r, place);
-        place = std::num::wrapping_add_usize(place, 8);
+        place = after(place, 8);
     }
     values
 }
@@ -59,9 +60,9 @@ pub(crate) fn pack_holds(r: &[u8]) -> bool {
 
 fn packed_holds(answer: Answer, out: &[u8; BYTES], r: &[u8], at: usize) -> bool {
     let length = u32_at(r, at) as usize;
-    r.len() == std::num::wrapping_add_usize(at, 4 + length)
+    r.len() == after(at, 4 + length)
         && answer_is(answer, u8_at(r, 4), u64_at(r, 6), length as u64)
-        && same_bytes(out, 0, r, std::num::wrapping_add_usize(at, 4), length)
+        && same_bytes(out, 0, r, after(at, 4), length)
         && rest_is_old(out, length)
 }
 
@@ -82,11 +83,14 @@ pub(crate) fn unpack_holds(r: &[u8]) -> bool {
     let mut out = old_values();
     let count = u32_at(r, 4) as usize;
     let answer = bitpack::unpack(&r[22..22 + length], u32_at(r, 0), count, &mut out);
-    let values = values_at(r, 26 + length);
-    let stored = u32_at(r, 22 + length) as usize;
-    r.len() == 26 + length + 8 * stored
-        && answer_is(answer, u8_at(r, 8), u64_at(r, 10), count as u64)
-        && front_is(&out, &values, stored)
+    unpacked_holds(answer, &out, r, 22 + length)
+}
+
+fn unpacked_holds(answer: Answer, out: &[u64; VALUES], r: &[u8], at: usize) -> bool {
+    let stored = u32_at(r, at) as usize;
+    r.len() == after(at, 4 + 8 * stored)
+        && answer_is(answer, u8_at(r, 8), u64_at(r, 10), u32_at(r, 4) as u64)
+        && front_is(out, &values_at(r, after(at, 4)), stored)
 }
 
 // Are the first n of these values those, and the others as they were?
@@ -112,15 +116,16 @@ pub(crate) fn length_holds(r: &[u8]) -> bool {
 // Kind 6: packing many values, then unpacking those bytes; both by their checksums.
 pub(crate) fn many_hold(r: &[u8]) -> bool {
     let n = u32_at(r, 4) as usize;
-    let values = made::values(u64_at(r, 8));
     let mut out = old_bytes();
-    let answer = pack_front(&values, n, u32_at(r, 0), &mut out);
+    let answer = pack_front(&made::values(u64_at(r, 8)), n, u32_at(r, 0), &mut out);
+    r.len() == 36 && many_packed(answer, &out, r) && many_back(&out, n, r)
+}
+
+fn many_packed(answer: Answer, out: &[u8; BYTES], r: &[u8]) -> bool {
     let length = u32_at(r, 16) as usize;
-    r.len() == 36
-        && answer_is(answer, 0, 0, length as u64)
-        && made::checksum(&out, 0, length) == u64_at(r, 20)
-        && rest_is_old(&out, length)
-        && many_back(&out, n, r)
+    answer_is(answer, 0, 0, length as u64)
+        && made::checksum(out, 0, length) == u64_at(r, 20)
+        && rest_is_old(out, length)
 }
 
 fn many_back(packed: &[u8; BYTES], n: usize, r: &[u8]) -> bool {

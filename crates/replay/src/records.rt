@@ -19,14 +19,20 @@ pub(crate) enum File {
 // Places for counts: first a file's kinds of records, from 1 on and up to 6, then what else it counts.
 pub(crate) const COUNTS: usize = 8;
 
-// One more at a place of the counts for what holds, which is handed through.
-pub(crate) fn counted(held: &mut [u64; COUNTS], place: usize, is_right: bool) -> bool {
-    if is_right {
-        if place < COUNTS {
-            held[place] = std::num::wrapping_add_u64(held[place], 1);
-        }
+// The place of what does not hold.
+pub(crate) const WRONG: usize = 0;
+
+// The place at which an answer counts.
+pub(crate) fn place_of(place: usize, is_right: bool) -> usize {
+    if is_right { place } else { WRONG }
+}
+
+// Counts one more at the place. Does it hold?
+pub(crate) fn counted(held: &mut [u64; COUNTS], place: usize) -> bool {
+    if place < COUNTS {
+        held[place] = std::num::wrapping_add_u64(held[place], 1);
     }
-    is_right
+    place != WRONG
 }
 
 // Replays every record of the file and prints for each kind how many hold. A record that does not hold is named by its place
@@ -38,6 +44,12 @@ pub(crate) fn replay(which: File, file: &[u8]) {
         at = replay_at(which, file, at, &mut held);
     }
     report(which, &held);
+}
+
+fn report(which: File, held: &[u64; COUNTS]) {
+    for place in 1..COUNTS {
+        report_at(which, place, held[place]);
+    }
 }
 
 // Replays the record at `at`, a byte for its kind, the length of the rest in four bytes, the rest, and gives the place after it.
@@ -55,7 +67,7 @@ fn replay_at(which: File, file: &[u8], at: usize, held: &mut [u64; COUNTS]) -> u
     let end = at + 5 + length;
     let kind = byte_at(file, at, 0) as usize;
     let is_right = holds(which, kind, &file[at + 5..end], held);
-    if counted(held, kind, is_right) {
+    if counted(held, place_of(kind, is_right)) {
         return end;
     }
     wrong(at, end)
@@ -77,10 +89,10 @@ fn holds(which: File, kind: usize, record: &[u8], held: &mut [u64; COUNTS]) -> b
     }
 }
 
-fn report(which: File, held: &[u64; COUNTS]) {
+fn report_at(which: File, place: usize, n: u64) {
     match which {
-        File::Leaves => leaves::report(held),
-        File::Columns => columns::report(held),
-        File::Chunks => chunks::report(held),
+        File::Leaves => leaves::report(place, n),
+        File::Columns => columns::report(place, n),
+        File::Chunks => chunks::report(place, n),
     }
 }
