@@ -6,7 +6,6 @@ use crate::fields::answer_is;
 use crate::fields::u8_at;
 use crate::fields::u16_at;
 use crate::fields::u32_at;
-use crate::made::keys_told;
 use crate::records::COUNTS;
 use crate::records::WRONG;
 use crate::records::counted;
@@ -18,10 +17,9 @@ use format::refusal::BUFFER_TOO_SHORT;
 // The name of a reading that names no encoding.
 pub(crate) const UNNAMED: u32 = 0;
 
-// Places in the column buffer: more than a chunk of kind 1 gives, and more than one of kind 2 gives but for those of 2^24 values.
+// Places in the column buffer of kind 1, more than its chunks give. Those of kind 2 give no more than a column has, but for those of
+// 2^24 values.
 const FEW: usize = 128;
-
-const MANY: usize = 20480;
 
 // The places after the kinds: readings accepted, refused, and refused only for the length of our column buffer.
 const ACCEPTED: usize = 3;
@@ -54,13 +52,13 @@ pub(crate) fn report(place: usize, n: u64) {
 
 fn few_hold(r: &[u8], held: &mut [u64; COUNTS]) -> bool {
     let mut column = [0i64; FEW];
-    r.len() == count_at(r) + 4 + 8 * count_of(r) as usize
-        && readings_hold(r, true, &mut column, held)
+    (r.len() == count_at(r) + 4 + 8 * count_of(r) as usize)
+        & readings_hold(r, true, &mut column, held)
 }
 
 fn many_hold(r: &[u8], held: &mut [u64; COUNTS]) -> bool {
-    let mut column = [0i64; MANY];
-    r.len() == count_at(r) + 12 && readings_hold(r, false, &mut column, held)
+    let mut column = buffers::old_keys();
+    (r.len() == count_at(r) + 12) & readings_hold(r, false, &mut column, held)
 }
 
 // The places of a record's parts: the end of the chunk, which has its length before it, and the count after the answers, before the
@@ -141,7 +139,7 @@ fn told(answer: Answer, r: &[u8], at: usize, is_stored: bool, column: &[i64]) ->
 }
 
 fn refused_holds(answer: Answer, number: u64, offset: u64, column: &[i64]) -> bool {
-    answer_is(answer, number, offset, 0) && buffers::keys_are_old(column, 0)
+    answer_is(answer, number, offset, 0) & buffers::keys_are_old(column, 0)
 }
 
 // The front of the buffer has the values, and the rest is as it was. A column of 2^24 values is more than a program's stack
@@ -154,7 +152,6 @@ fn accepted(answer: Answer, r: &[u8], is_stored: bool, column: &[i64]) -> usize 
         return place_of(LARGE, is_right);
     }
     let is_right = answer_is(answer, 0, 0, count as u64)
-        && keys_told(column, r, is_stored, count_at(r) + 4, count)
-        && buffers::keys_are_old(column, count);
+        & buffers::keys_hold(column, r, is_stored, count_at(r) + 4, count);
     place_of(ACCEPTED, is_right)
 }

@@ -3,6 +3,7 @@
 // what is written. The statistics, the estimates and the plans are not compared yet: the port has none.
 ghost use Prim.Native.Nat.{_≤_};
 use crate::buffers;
+use crate::buffers::KEYS;
 use crate::fields::after;
 use crate::fields::u8_at;
 use crate::fields::u32_at;
@@ -10,9 +11,6 @@ use crate::keys;
 use crate::records::COUNTS;
 use crate::text;
 use crate::written;
-
-// More keys than a column has.
-const KEYS: usize = 20480;
 
 pub(crate) fn holds(kind: usize, record: &[u8], held: &mut [u64; COUNTS]) -> bool {
     match kind {
@@ -28,12 +26,7 @@ pub(crate) fn report(place: usize, n: u64) {
         1 => text::count(b"columns, stored: ", n),
         2 => text::count(b"columns, described: ", n),
         3 => text::count(b"encodings that write no keys: ", n),
-        written::WRITTEN => text::count(b"chunks written, and read back in four ways: ", n),
-        written::TOO_MANY => text::count(
-            b"Dictionary chunks of too many distinct values, refused: ",
-            n,
-        ),
-        _ => {}
+        _ => written::report(place, n),
     }
 }
 
@@ -43,9 +36,9 @@ fn column_holds(r: &[u8], is_stored: bool, held: &mut [u64; COUNTS]) -> bool {
     if count > KEYS {
         return false;
     }
-    let mut column = [0i64; KEYS];
+    let mut column = buffers::old_keys();
     load(r, is_stored, &mut column);
-    is_whole(r, is_stored) && written::chunks_hold(r, is_stored, &column[..count], held)
+    is_whole(r, is_stored) & written::chunks_hold(r, is_stored, &column[..count], held)
 }
 
 // Puts the record's keys into a buffer, which is longer. Stored, they are the end of the first chunk, Plain.

@@ -36,7 +36,7 @@ fn writes(column: &[i64], chunk: &[u8; 12]) {
     entry(
         b"129 zeros, then 1000, as a Delta chunk: ",
         answer,
-        answer_is(answer, 0, 0, 12) && same_bytes(&out, 0, chunk, 0, 12),
+        answer_is(answer, 0, 0, 12) & same_bytes(&out, 0, chunk, 0, 12),
     );
 }
 
@@ -46,7 +46,7 @@ fn reads(chunk: &[u8], column: &[i64]) {
     entry(
         b"that chunk, read: ",
         answer,
-        answer_is(answer, 0, 0, KEYS as u64) && buffers::same_keys(&back, column, KEYS),
+        answer_is(answer, 0, 0, KEYS as u64) & buffers::same_keys(&back, column, KEYS),
     );
 }
 
@@ -96,7 +96,7 @@ fn into_one_place(what: &[u8], chunk: &[u8], number: u32, offset: u64) {
         what,
         answer,
         answer_is(answer, number as u64, offset, 1)
-            && buffers::same_keys(&column, &[value_after(number)], 1),
+            & buffers::same_keys(&column, &[value_after(number)], 1),
     );
 }
 

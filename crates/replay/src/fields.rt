@@ -37,27 +37,17 @@ pub(crate) fn u16_at(s: &[u8], at: usize) -> u64
 }
 
 pub(crate) fn u32_at(s: &[u8], at: usize) -> u32 {
-    narrow(byte_at(s, at, 0))
-        + narrow(byte_at(s, at, 1)) * 256
-        + narrow(byte_at(s, at, 2)) * 65536
-        + narrow(byte_at(s, at, 3)) * 16777216
-}
-
-fn narrow(b: u8) -> u32
-    ensures { λ r. ⌜ r < 256 ⌝ }
-{
-    b as u32
+    (u16_at(s, at) + u16_at(s, after(at, 2)) * 65536) as u32
 }
 
 pub(crate) fn u64_at(s: &[u8], at: usize) -> u64 {
-    wide(byte_at(s, at, 0))
-        + wide(byte_at(s, at, 1)) * 256
-        + wide(byte_at(s, at, 2)) * 65536
-        + wide(byte_at(s, at, 3)) * 16777216
-        + wide(byte_at(s, at, 4)) * 4294967296
-        + wide(byte_at(s, at, 5)) * 1099511627776
-        + wide(byte_at(s, at, 6)) * 281474976710656
-        + wide(byte_at(s, at, 7)) * 72057594037927936
+    low(u32_at(s, at)) + low(u32_at(s, after(at, 4))) * 4294967296
+}
+
+fn low(half: u32) -> u64
+    ensures { λ r. ⌜ r < 4294967296 ⌝ }
+{
+    half as u64
 }
 
 // Are the n bytes of s at `at` those of t at `there`?
@@ -87,9 +77,9 @@ pub(crate) fn after_header(file: &[u8]) -> usize {
 // Is the answer accepted with this count, where the number is 0, or refused with this number and this offset?
 pub(crate) fn answer_is(answer: Answer, number: u64, offset: u64, count: u64) -> bool {
     match answer {
-        Answer::Accepted(found) => number == 0 && found as u64 == count,
-        Answer::Refused(refusal, place) => number != 0
-            && refusal as u64 == number
-            && place as u64 == offset,
+        Answer::Accepted(found) => (number == 0) & (found as u64 == count),
+        Answer::Refused(refusal, place) => (number != 0)
+            & (refusal as u64 == number)
+            & (place as u64 == offset),
     }
 }

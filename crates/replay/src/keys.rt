@@ -1,10 +1,8 @@
 // The keys of a described column, by the formula that docs/ORACLE.md has ("columns.bin", kind 2).
-ghost use Prim.Native.Nat.{_<_};
 use crate::fields::after;
 use crate::fields::u64_at;
-use crate::made::high_half;
-use crate::made::low_half;
 use crate::made::next_state;
+use crate::made::times;
 use std::num::wrapping_add_u64;
 
 // The formula's ten numbers, as they stand in a record.
@@ -82,20 +80,4 @@ fn shifted(x: u64, n: u64) -> u64 {
         return 0;
     }
     x >> n
-}
-
-// a times b, modulo 2^64: by halves, of which two high ones leave nothing.
-fn times(a: u64, b: u64) -> u64 {
-    let high = wrapping_add_u64(
-        product(high_half(a), low_half(b)),
-        product(low_half(a), high_half(b)),
-    );
-    wrapping_add_u64(product(low_half(a), low_half(b)), high << 32)
-}
-
-fn product(a: u64, b: u64) -> u64
-    requires { ⌜ a < 4294967296 ⌝ }
-    requires { ⌜ b < 4294967296 ⌝ }
-{
-    a * b
 }

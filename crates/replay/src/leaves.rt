@@ -16,11 +16,7 @@ pub(crate) fn holds(kind: usize, record: &[u8]) -> bool {
     match kind {
         1 => number_holds(record),
         2 => reading_holds(record),
-        3 => packing::pack_holds(record),
-        4 => packing::unpack_holds(record),
-        5 => packing::length_holds(record),
-        6 => packing::many_hold(record),
-        _ => false,
+        _ => packing::holds(kind, record),
     }
 }
 
@@ -28,11 +24,7 @@ pub(crate) fn report(place: usize, n: u64) {
     match place {
         1 => text::count(b"numbers: ", n),
         2 => text::count(b"varints read: ", n),
-        3 => text::count(b"packings: ", n),
-        4 => text::count(b"unpackings: ", n),
-        5 => text::count(b"packed lengths: ", n),
-        6 => text::count(b"packings of many values, and back: ", n),
-        _ => {}
+        _ => packing::report(place, n),
     }
 }
 
@@ -40,12 +32,12 @@ pub(crate) fn report(place: usize, n: u64) {
 fn number_holds(r: &[u8]) -> bool {
     let x = u64_at(r, 0);
     let v = number::of_bits(x);
-    r.len() == 47
-        && u64_at(r, 8) == number::zigzag_encode(v)
-        && u64_at(r, 16) == number::bits_of(number::zigzag_decode(x))
-        && u8_at(r, 24) == number::required_width(x) as u64
-        && uvarint_holds(x, r)
-        && varint_holds(v, r)
+    (r.len() == 47)
+        & (u64_at(r, 8) == number::zigzag_encode(v))
+        & (u64_at(r, 16) == number::bits_of(number::zigzag_decode(x)))
+        & (u8_at(r, 24) == number::required_width(x) as u64)
+        & uvarint_holds(x, r)
+        & varint_holds(v, r)
 }
 
 fn uvarint_holds(x: u64, r: &[u8]) -> bool {
@@ -62,9 +54,9 @@ fn varint_holds(v: i64, r: &[u8]) -> bool {
 
 // Has the record this length at `at`, and behind it what was written?
 fn written_holds(answer: Answer, length: usize, out: &[u8; 10], r: &[u8], at: usize) -> bool {
-    u8_at(r, at) == length as u64
-        && answer_is(answer, 0, 0, length as u64)
-        && same_bytes(out, 0, r, after(at, 1), 10)
+    (u8_at(r, at) == length as u64)
+        & answer_is(answer, 0, 0, length as u64)
+        & same_bytes(out, 0, r, after(at, 1), 10)
 }
 
 // Kind 2: reading at a place, unsigned and signed.
@@ -73,9 +65,9 @@ fn reading_holds(r: &[u8]) -> bool {
         return false;
     }
     let place = u64_at(r, 0) as usize;
-    (r.len() - 44) as u64 == u16_at(r, 42)
-        && uvarint_read_holds(&r[44..], place, r)
-        && varint_read_holds(&r[44..], place, r)
+    ((r.len() - 44) as u64 == u16_at(r, 42))
+        & uvarint_read_holds(&r[44..], place, r)
+        & varint_read_holds(&r[44..], place, r)
 }
 
 fn uvarint_read_holds(s: &[u8], place: usize, r: &[u8]) -> bool {
@@ -93,9 +85,9 @@ fn varint_read_holds(s: &[u8], place: usize, r: &[u8]) -> bool {
 }
 
 fn read_holds(value: u64, field: usize, next: usize, r: &[u8]) -> bool {
-    u8_at(r, 8) == 0 && u64_at(r, field) == value && u64_at(r, 34) == next as u64
+    (u8_at(r, 8) == 0) & (u64_at(r, field) == value) & (u64_at(r, 34) == next as u64)
 }
 
 fn refusal_holds(number: u32, offset: usize, r: &[u8]) -> bool {
-    u8_at(r, 8) == number as u64 && u64_at(r, 10) == offset as u64
+    (u8_at(r, 8) == number as u64) & (u64_at(r, 10) == offset as u64)
 }

@@ -1,6 +1,7 @@
 // Replays the stored answers of the original Rust (docs/ORACLE.md): asks the port each question that the files in data/ hold and
 // compares; then runs document 01's entries on chunks that are not proved. Prints how many answers hold, of each kind, which `rt`
-// holds to the file stdout, and the place of each that does not.
+// holds to the file stdout, and the place of each that does not. Questions are joined by `&`, which asks them all: it has no branches,
+// so it is proved sooner.
 ghost use Rattle.io.specs.Counts.{Counts};
 
 mod buffers;
@@ -18,9 +19,6 @@ mod written;
 
 use records::File;
 
-// More bytes than any of the files has.
-const ROOM: usize = 262144;
-
 fn main() {
     replay(b"leaves.bin", File::Leaves);
     replay(b"columns.bin", File::Columns);
@@ -29,7 +27,7 @@ fn main() {
 }
 
 fn replay(path: &[u8], which: File) {
-    let mut room = [0u8; ROOM];
+    let mut room = buffers::old_bytes();
     let length = load(path, &mut room);
     records::replay(which, &room[..length]);
 }

@@ -1,40 +1,48 @@
 // What the port writes of a column, and reads back, in each encoding: the chunks and the distinct values of data/columns.bin.
 ghost use Prim.Native.Nat.{_<_, _≤_};
-use crate::buffers::OLD_BYTE;
+use crate::buffers::BYTES;
+use crate::buffers::KEYS;
 use crate::buffers::OLD_KEY;
 use crate::buffers::bytes_are_old;
+use crate::buffers::bytes_hold;
 use crate::buffers::keys_are_old;
+use crate::buffers::keys_hold;
+use crate::buffers::old_bytes;
+use crate::buffers::old_keys;
 use crate::buffers::same_keys;
 use crate::chunks::UNNAMED;
 use crate::chunks::read;
 use crate::columns::chunk_at;
 use crate::fields::after;
 use crate::fields::answer_is;
-use crate::fields::same_bytes;
 use crate::fields::u8_at;
 use crate::fields::u32_at;
-use crate::fields::u64_at;
-use crate::made;
-use crate::made::keys_told;
 use crate::records::COUNTS;
 use crate::records::WRONG;
 use crate::records::counted;
 use crate::records::place_of;
+use crate::text;
 use format::limits::MAX_DICTIONARY_CARDINALITY;
 use format::refusal::BUFFER_TOO_SHORT;
 use format::refusal::TOO_MANY_DISTINCT;
 
 const DICTIONARY: u32 = 6;
 
-// More keys than a column has, more bytes than its longest chunk.
-const KEYS: usize = 20480;
-
-const BYTES: usize = 262144;
-
 // The places after the kinds: chunks written and read back, and Dictionary chunks refused for too many distinct values.
-pub(crate) const WRITTEN: usize = 4;
+const WRITTEN: usize = 4;
 
-pub(crate) const TOO_MANY: usize = 5;
+const TOO_MANY: usize = 5;
+
+pub(crate) fn report(place: usize, n: u64) {
+    match place {
+        WRITTEN => text::count(b"chunks written, and read back in four ways: ", n),
+        TOO_MANY => text::count(
+            b"Dictionary chunks of too many distinct values, refused: ",
+            n,
+        ),
+        _ => {}
+    }
+}
 
 // The seven chunks.
 pub(crate) fn chunks_hold(
@@ -66,29 +74,15 @@ fn chunk(r: &[u8], is_stored: bool, id: u32, column: &[i64]) -> usize {
 fn chunk_holds(r: &[u8], is_stored: bool, id: u32, length: usize, column: &[i64]) -> bool
     requires { ⌜ (0 < length) × (length ≤ 262144) ⌝ }
 {
-    let mut scratch = [OLD_KEY; KEYS];
-    let mut out = [OLD_BYTE; BYTES];
+    let mut scratch = old_keys();
+    let mut out = old_bytes();
     let answer = integer::encode_integers(column, id, &mut scratch, &mut out);
-    let is_read = reads_back(&out[..length], id, column);
+    let at = after(chunk_at(r, is_stored, id), 4);
     answer_is(answer, 0, 0, length as u64)
-        && bytes_hold(r, is_stored, id, &out)
-        && scratch_holds(r, is_stored, id, &scratch)
-        && short_holds(column, id, length, &scratch)
-        && is_read
-}
-
-// Are the bytes written those of the record's chunk, or have they its checksum, and is what is behind them as it was?
-fn bytes_hold(r: &[u8], is_stored: bool, id: u32, out: &[u8]) -> bool {
-    let at = chunk_at(r, is_stored, id);
-    let length = u32_at(r, at) as usize;
-    bytes_are_old(out, length) && bytes_told(out, r, is_stored, after(at, 4), length)
-}
-
-fn bytes_told(out: &[u8], r: &[u8], is_stored: bool, at: usize, length: usize) -> bool {
-    if is_stored {
-        return same_bytes(out, 0, r, at, length);
-    }
-    made::checksum(out, 0, length) == u64_at(r, at)
+        & bytes_hold(&out, r, is_stored, at, length)
+        & scratch_holds(r, is_stored, id, &scratch)
+        & short_holds(column, id, length, &scratch)
+        & reads_back(&out[..length], id, column)
 }
 
 // Does the scratch begin with the distinct values, if the encoding is Dictionary, and is the rest as it was?
@@ -98,14 +92,14 @@ fn scratch_holds(r: &[u8], is_stored: bool, id: u32, scratch: &[i64]) -> bool {
     }
     let distinct = chunk_at(r, is_stored, 8);
     let number = u32_at(r, distinct) as usize;
-    keys_are_old(scratch, number) && keys_told(scratch, r, is_stored, after(distinct, 4), number)
+    keys_hold(scratch, r, is_stored, after(distinct, 4), number)
 }
 
 // With one byte less than needed the answer is that length, and the scratch is left as by the call that has room.
 fn short_holds(column: &[i64], id: u32, needed: usize, left: &[i64]) -> bool
     requires { ⌜ (0 < needed) × (needed ≤ 262144) ⌝ }
 {
-    let mut scratch = [OLD_KEY; KEYS];
+    let mut scratch = old_keys();
     let is_refused = refused(
         column,
         id,
@@ -114,14 +108,14 @@ fn short_holds(column: &[i64], id: u32, needed: usize, left: &[i64]) -> bool
         needed,
         &mut scratch,
     );
-    is_refused && same_keys(&scratch, left, KEYS)
+    is_refused & same_keys(&scratch, left, KEYS)
 }
 
 // Document 01 refuses a Dictionary chunk of too many distinct values, some of which are then in the scratch.
 fn too_many_holds(column: &[i64], id: u32) -> bool {
-    let mut scratch = [OLD_KEY; KEYS];
+    let mut scratch = old_keys();
     let is_refused = refused(column, id, BYTES, TOO_MANY_DISTINCT as u64, 0, &mut scratch);
-    id == DICTIONARY && is_refused && keys_are_old(&scratch, MAX_DICTIONARY_CARDINALITY)
+    (id == DICTIONARY) & is_refused & keys_are_old(&scratch, MAX_DICTIONARY_CARDINALITY)
 }
 
 // Kind 3: an encoding that writes no keys. Document 01 has the offset 0, the Rust none.
@@ -135,7 +129,7 @@ pub(crate) fn none_holds(r: &[u8]) -> bool {
         0,
         &mut scratch,
     );
-    r.len() == 2 && is_refused && keys_are_old(&scratch, 0)
+    (r.len() == 2) & is_refused & keys_are_old(&scratch, 0)
 }
 
 // Is the column refused so many bytes of room, with this number and offset, and is the output then as it was?
@@ -149,9 +143,9 @@ fn refused(
 ) -> bool
     requires { ⌜ room ≤ 262144 ⌝ }
 {
-    let mut out = [OLD_BYTE; BYTES];
+    let mut out = old_bytes();
     let answer = integer::encode_integers(column, id, scratch, &mut out[..room]);
-    answer_is(answer, number, offset as u64, 0) && is_old(&out)
+    answer_is(answer, number, offset as u64, 0) & is_old(&out)
 }
 
 fn is_old(out: &[u8; BYTES]) -> bool {
@@ -161,15 +155,15 @@ fn is_old(out: &[u8; BYTES]) -> bool {
 // Does the chunk read back, unnamed and named, strict and not?
 fn reads_back(chunk: &[u8], id: u32, column: &[i64]) -> bool {
     column_read(chunk, UNNAMED, false, column)
-        && column_read(chunk, UNNAMED, true, column)
-        && column_read(chunk, id, false, column)
-        && column_read(chunk, id, true, column)
+        & column_read(chunk, UNNAMED, true, column)
+        & column_read(chunk, id, false, column)
+        & column_read(chunk, id, true, column)
 }
 
 fn column_read(chunk: &[u8], name: u32, strict: bool, column: &[i64]) -> bool {
-    let mut back = [OLD_KEY; KEYS];
+    let mut back = old_keys();
     let answer = read(chunk, name, strict, &mut back);
     answer_is(answer, 0, 0, column.len() as u64)
-        && same_keys(&back, column, column.len())
-        && keys_are_old(&back, column.len())
+        & same_keys(&back, column, column.len())
+        & keys_are_old(&back, column.len())
 }

@@ -14,4 +14,7 @@ abbrev μ-loop : tie.MeasureT-loop
 
 pub fill-keys-spec : {M : Type 1} → statement M
 fill-keys-spec =
-    tie.close (tie.spec Inv-loop μ-loop (λ c. (refl, refl)) (λ c. search needs) (λ c. search needs) (λ c. search needs) (λ c. search needs) (λ c. search needs) (λ c. c .before .loop .inv .0) (λ c. tt))
+    tie.close
+    (tie.spec
+    Inv-loop μ-loop (λ c. (refl, refl)) (λ c. search needs) (λ c. search needs) (λ c. search needs) (λ c. search needs) (λ c. search needs)
+    (λ c. c .before .loop .inv .0) (λ c. tt))

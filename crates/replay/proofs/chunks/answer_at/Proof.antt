@@ -12,4 +12,7 @@ abbrev μ-loop : tie.MeasureT-loop
 
 pub answer-at-spec : {M : Type 1} → statement M
 answer-at-spec =
-    tie.close (tie.spec Inv-loop μ-loop (λ c κs. tt) (λ c κs. tt) (λ c. tt) (λ c κs. tt) (λ c κs. tt) (λ c. tt) (λ c κs. tt) (λ c. search needs) (λ c. search needs) (λ c. tt) (λ c. tt))
+    tie.close
+    (tie.spec
+    Inv-loop μ-loop (λ c κs. tt) (λ c κs. tt) (λ c. tt) (λ c κs. tt) (λ c κs. tt) (λ c. tt) (λ c κs. tt) (λ c. search needs) (λ c. search needs)
+    (λ c. tt) (λ c. tt))

@@ -14,4 +14,7 @@ abbrev μ-loop : tie.MeasureT-loop
 
 pub readings-hold-spec : {M : Type 1} → statement M
 readings-hold-spec =
-    tie.close (tie.spec Inv-loop μ-loop (λ c. refl) (λ c κs. tt) (λ c κs. tt) (λ c. search needs) (λ c. tt) (λ c. search needs) (λ c. search needs) (λ c. search needs) (λ c. search needs) (λ c. tt))
+    tie.close
+    (tie.spec
+    Inv-loop μ-loop (λ c. refl) (λ c κs. tt) (λ c κs. tt) (λ c. search needs) (λ c. tt) (λ c. search needs) (λ c. search needs) (λ c. search needs)
+    (λ c. search needs) (λ c. tt))

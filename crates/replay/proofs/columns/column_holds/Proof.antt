@@ -11,4 +11,7 @@ slice-aggregate-chunks-hold c = sym (length-take-le _ _ (omega arith))
 
 pub column-holds-spec : {M : Type 1} → statement M
 column-holds-spec =
-    tie.close (tie.spec (λ c κs. search needs) (λ c. search needs) (λ c. search needs) (λ c. search needs) (λ c κs. search needs) (λ c κs. search needs) (λ c. search needs) slice-aggregate-chunks-hold (λ c κs. search needs) (λ c. search needs) (λ c. search needs))
+    tie.close
+    (tie.spec
+    (λ c κs. search needs) (λ c. search needs) (λ c. search needs) (λ c κs. search needs) (λ c. search needs) (λ c κs. search needs)
+    (λ c κs. search needs) (λ c. search needs) slice-aggregate-chunks-hold (λ c κs. search needs) (λ c. search needs))

@@ -13,4 +13,7 @@ abbrev μ-loop : tie.MeasureT-loop
 
 pub after-header-spec : {M : Type 1} → statement M
 after-header-spec =
-    tie.close (tie.spec Inv-loop μ-loop (λ c. tt) (λ c. search needs) (λ c κs. tt) (λ c. search needs) (λ c. tt) (λ c. search needs) (λ c. search needs) (λ c. tt) (λ c. tt))
+    tie.close
+    (tie.spec
+    Inv-loop μ-loop (λ c. tt) (λ c. search needs) (λ c κs. tt) (λ c. search needs) (λ c. tt) (λ c. search needs) (λ c. search needs) (λ c. tt)
+    (λ c. tt))

@@ -5,10 +5,10 @@ use Rattle.replay.proofs.made.checksum.Statement.{statement}
 use Rattle.replay.proofs.made.checksum.Tie as tie
 
 abbrev Inv-loop : tie.InvT-loop
-Inv-loop s at n sum₀ i₀ sum i = Unit {0}
+Inv-loop s n sum₀ i₀ sum i = Unit {0}
 
 abbrev μ-loop : tie.MeasureT-loop
-μ-loop s at n sum₀ i₀ sum i = n - i
+μ-loop s n sum₀ i₀ sum i = n - i
 
 pub checksum-spec : {M : Type 1} → statement M
 checksum-spec =

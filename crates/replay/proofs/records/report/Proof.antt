@@ -12,4 +12,7 @@ abbrev μ-loop : tie.MeasureT-loop
 
 pub report-spec : {M : Type 1} → statement M
 report-spec =
-    tie.close (tie.spec Inv-loop μ-loop (λ c. tt) (λ c. search needs) (λ c. search needs) (λ c κs. search needs) (λ c. search needs) (λ c. search needs) (λ c. tt) (λ c. tt))
+    tie.close
+    (tie.spec
+    Inv-loop μ-loop (λ c. tt) (λ c. search needs) (λ c. search needs) (λ c κs. search needs) (λ c. search needs) (λ c. search needs) (λ c. tt)
+    (λ c. tt))

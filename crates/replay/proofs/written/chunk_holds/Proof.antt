@@ -6,12 +6,13 @@ use borrow.Author.Needs.{needs}
 use Rattle.replay.proofs.written.chunk_holds.Statement.{statement}
 use Rattle.replay.proofs.written.chunk_holds.Tie as tie
 
-array-share-prefix-out : tie.Need-array-share-prefix-out
-array-share-prefix-out c = omega arith
-
 slice-aggregate-reads-back : tie.Need-slice-aggregate-reads-back
 slice-aggregate-reads-back c = sym (length-take-le _ _ (omega arith))
 
 pub chunk-holds-spec : {M : Type 1} → statement M
 chunk-holds-spec =
-    tie.close (tie.spec (λ c. search needs) (λ c. search needs) (λ c κs. search needs) array-share-prefix-out slice-aggregate-reads-back (λ c κs. search needs) (λ c κs. search needs) (λ c. search needs) (λ c κs. search needs) (λ c. search needs) (λ c κs. search needs) (λ c. search needs) (λ c κs. search needs) (λ c. search needs) (λ c. search needs))
+    tie.close
+    (tie.spec
+    (λ c κs. search needs) (λ c κs. search needs) (λ c. search needs) (λ c. search needs) (λ c κs. search needs) (λ c κs. search needs)
+    (λ c κs. search needs) (λ c κs. search needs) (λ c. search needs) (λ c κs. search needs) (λ c. search needs) (λ c κs. search needs)
+    (λ c. search needs) (λ c κs. search needs) (λ c. search needs) slice-aggregate-reads-back (λ c κs. search needs) (λ c. search needs))

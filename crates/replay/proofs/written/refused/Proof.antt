@@ -11,4 +11,7 @@ slice-aggregate-encode-integers c = sym (length-take-le _ _ (omega arith))
 
 pub refused-spec : {M : Type 1} → statement M
 refused-spec =
-    tie.close (tie.spec (λ c. search needs) slice-aggregate-encode-integers (λ c κs. search needs) (λ c κs. search needs) (λ c κs. search needs) (λ c. search needs) (λ c. search needs) (λ c. search needs) (λ c. search needs))
+    tie.close
+    (tie.spec
+    (λ c κs. search needs) (λ c. search needs) slice-aggregate-encode-integers (λ c κs. search needs) (λ c κs. search needs) (λ c κs. search needs)
+    (λ c. search needs) (λ c. search needs))

@@ -1,9 +1,9 @@
--- `keys::product` is safe: both numbers are below 2^32.
+-- `made::product` is safe: both numbers are below 2^32.
 use native.Mathlib.Omega.{arith}
 use native.Mathlib.Nat.{mul-le-mul}
 use borrow.Author.Needs.{needs}
-use Rattle.replay.proofs.keys.product.Statement.{statement}
-use Rattle.replay.proofs.keys.product.Tie as tie
+use Rattle.replay.proofs.made.product.Statement.{statement}
+use Rattle.replay.proofs.made.product.Tie as tie
 
 mul-result : tie.Need-mul-result
 mul-result c = record { fits = omega (arith, mul-le-mul (c .pre .0) (c .pre .1)) }
