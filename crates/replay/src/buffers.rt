@@ -92,8 +92,12 @@ pub(crate) fn load_keys(r: &[u8], at: usize, keys: &mut [i64]) {
     }
 }
 
-// Are the first n bytes those that a record tells at `at`, and the others as they were?
+// Are the first n bytes those that a record tells at `at`, and the others as they were? Not, if a damaged record tells of more bytes
+// than the buffer has.
 pub(crate) fn bytes_hold(bytes: &[u8], r: &[u8], is_stored: bool, at: usize, n: usize) -> bool {
+    if n > bytes.len() {
+        return false;
+    }
     bytes_are_old(bytes, n) & bytes_told(bytes, r, is_stored, at, n)
 }
 
@@ -106,6 +110,9 @@ fn bytes_told(bytes: &[u8], r: &[u8], is_stored: bool, at: usize, n: usize) -> b
 
 // The same of keys.
 pub(crate) fn keys_hold(keys: &[i64], r: &[u8], is_stored: bool, at: usize, n: usize) -> bool {
+    if n > keys.len() {
+        return false;
+    }
     keys_are_old(keys, n) & keys_told(keys, r, is_stored, at, n)
 }
 
