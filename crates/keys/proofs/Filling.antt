@@ -7,6 +7,7 @@ use Prim.Native.Nat.{ℕ, zero, suc, _+_, _-_, _^_, _≤_, _<_, min}
 use native.Mathlib.Nat.{sub-zero}
 use native.Mathlib.Omega.{arith}
 use borrow.Author.Needs.{sfits-of}
+use borrow.Author.Tests.{le-leb, lt-leb}
 use lib.IntN.{ℤ}
 use lib.Signed.{mag}
 use lib.ListN.{length, replicate, take, length-replicate, length-take}
@@ -14,12 +15,12 @@ use lib.Seq.{sets, take-all}
 use mir.Syntax.{w64}
 use mir.Val.{toZ, ofZ}
 use mir.Facts.{toZ-ofZ}
-use Rattle.format.specs.Answers.{stored}
+use Rattle.format.specs.Encodings.{maxChunkElements}
 use Rattle.format.specs.Keys.{unzigzag}
 use Rattle.format.proofs.numbers.Stores.{Storing, storing-none, storing-part, storing-done, sets-stored}
 use Rattle.varint.specs.Finding.{foundAt}
 use Rattle.varint.specs.declared.find.Found.{Found}
-use Rattle.keys.specs.Rows.{timesAfter, keyRows}
+use Rattle.keys.specs.Rows.{timesAfter, keyRows, filledFrom}
 
 -- ---- one run
 
@@ -51,19 +52,24 @@ pub record Filling (lengths : Bool) (s : List ℕ) (from n : ℕ) (old : List �
   pub room : at ≤ length column
   pub stores : Storing (take (length old) (keyRows lengths s from n)) old 0 (take (length column - at) (keyRows lengths s next (n - i))) column at
 
+-- more keys than a chunk can have
+pub filling-refused : (lengths : Bool) (s : List ℕ) (from n : ℕ) (old : List ℤ) → maxChunkElements < n → old ≡ filledFrom lengths s from n old
+unfolding filledFrom
+filling-refused lengths s from n old h = rw (lt-leb n maxChunkElements h)
+
 pub filling-none : {lengths : Bool} {s : List ℕ} {from n : ℕ} {old : List ℤ} → Filling lengths s from n old from 0 0 old
 filling-none = record { room = omega arith; stores = rw (sub-zero, sub-zero) storing-none }
 
 module _ {lengths : Bool} {s : List ℕ} {from n : ℕ} {old : List ℤ} {next i at : ℕ} {column : List ℤ} (f : Filling lengths s from n old next i at column) where
   -- no key is left
-  pub filling-done : n ≤ i → column ≡ stored (take (length old) (keyRows lengths s from n)) old
-  unfolding keyRows
-  filling-done h =
+  pub filling-done : n ≤ maxChunkElements → n ≤ i → column ≡ filledFrom lengths s from n old
+  unfolding keyRows filledFrom
+  filling-done few h =
       let e : n - i ≡ 0 = omega arith in
       let whole : List ℤ = take (length old) (keyRows lengths s from n) in
       let fits : length whole ≤ length old = omega (arith, length-take (length old) (keyRows lengths s from n)) in
       let none : take (length column - at) (keyRows lengths s next (n - i)) ≡ [] = rw e (take-all (length column - at) [] (omega arith)) in
-      storing-done (f .stores) none ∙ sets-stored whole old fits
+      rw (le-leb n maxChunkElements few) (storing-done (f .stores) none ∙ sets-stored whole old fits)
 
   -- the next is found, and so many of its copies have room
   module _ (h : i < n) {key times : Found} (k : key ≡ foundAt s next) (t : times ≡ timesAfter lengths s (key .next))

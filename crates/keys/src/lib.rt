@@ -2,11 +2,11 @@
 // the compiler inlines the finding of a key, which is long, only where it is called once, and is half as fast where it does not.
 ghost use mathlib.Core.Path.{_≡_};
 ghost use Prim.Native.Nat.{_+_, _≤_, _<_, min};
-ghost use lib.ListN.{length, replicate, take};
+ghost use lib.ListN.{length, replicate};
 ghost use lib.Seq.{sets};
-ghost use Rattle.format.specs.Answers.{stored};
 ghost use Rattle.varint.specs.Finding.{foundAt};
-ghost use Rattle.keys.specs.Rows.{timesAfter, keyRows};
+ghost use Rattle.keys.specs.Rows.{timesAfter, filledFrom};
+use format::limits::MAX_CHUNK_ELEMENTS;
 use varint::find::Found;
 use varint::find::find_any;
 use varint::find::find_uvarint;
@@ -67,11 +67,14 @@ fn fill_run(column: &mut [i64], at: usize, times: usize, key: i64)
     }
 }
 
-// Fills the front of a column from n keys in a row, with lengths or without, as far as there is room.
+// Fills the front of a column from n keys in a row, with lengths or without, as far as there is room. A chunk has no more than
+// 2^24 keys: asked of more, it stores nothing, so that no number makes the walk longer.
 pub fn fill_keys(chunk: &[u8], from: usize, n: usize, lengths: bool, column: &mut [i64])
-    ensures { λ _. ⌜ now (column .exit)
-        ≡ stored (take (length (now (column .entry))) (keyRows lengths (now (chunk .entry)) from n)) (now (column .entry)) ⌝ }
+    ensures { λ _. ⌜ now (column .exit) ≡ filledFrom lengths (now (chunk .entry)) from n (now (column .entry)) ⌝ }
 {
+    if n > MAX_CHUNK_ELEMENTS {
+        return;
+    }
     let mut next = from;
     let mut at = 0;
     for _ in 0..n {

@@ -6,16 +6,18 @@ use mathlib.Core.List.{List}
 use Prim.Native.Nat.{ℕ, suc, _-_, _+_, _<_, _≤_, zero-le}
 use native.Mathlib.Nat.{sub-zero}
 use native.Mathlib.Omega.{arith}
-use lib.Dec.{ltb}
-use borrow.Author.Tests.{ltb-true, ltb-false, le-leb, lt-leb, eq-eqb, ne-eqb}
-use Rattle.format.specs.Outcome.{refused, ok}
-use Rattle.format.specs.Varint.{firstPadded, validateUvarints}
+use lib.Dec.{leb, ltb}
+use borrow.Author.Tests.{leb-true, ltb-true, ltb-false, le-leb, lt-leb, eq-eqb, ne-eqb}
+use Rattle.format.specs.Outcome.{refused, ok, check}
+use Rattle.format.specs.Varint.{Extent, readUvarint, uvarintAt, firstPadded, validateUvarints}
 use Rattle.format.specs.Parts.{extentAnswerOf}
 use Rattle.format.specs.Runs.{validateRuns, validateRunLength}
 use Rattle.format.specs.Standalone.{uvarintAnswer}
 use Rattle.format.specs.declared.Padded.{Padded}
 use Rattle.format.specs.declared.UvarintAnswer.the-variants.{Read, Malformed}
 use Rattle.format.specs.declared.ExtentAnswer.the-variants.{Ends, Malformed as MalformedExtent}
+use Rattle.format.proofs.codecs.Outcome.{both-passed, check-passed}
+use Rattle.format.proofs.codecs.Counts.{uvarint-again}
 use Rattle.varint.proofs.Answers.{answer-read, answer-malformed}
 use Rattle.runs.proofs.Keys.{extent-read, extent-malformed}
 
@@ -91,3 +93,11 @@ module _ (s : List ℕ) (start count : ℕ) (padded : Padded) where
     pub total-read : {first : Padded} → n ≤ count → first ≡ firstPadded padded start u → validateRunLength s start count padded ≡ validateRuns s next n count first
     unfolding validateRunLength
     total-read h p = rw (answer-read s start e, le-leb n count h, p)
+
+-- a body that passed has no more runs than values
+pub passed-few : (s : List ℕ) (start count : ℕ) (padded : Padded) {e : Extent} → validateRunLength s start count padded ≡ ok e → uvarintAt s start .value ≤ count
+unfolding validateRunLength
+passed-few s start count padded h =
+    both-passed (readUvarint s start) _ h λ n r h₁.
+    both-passed (check (leb (n .value) count) 14 (n .next)) _ h₁ λ _ few _.
+    rw (uvarint-again s start r) (leb-true (n .value) count (check-passed _ 14 _ few))

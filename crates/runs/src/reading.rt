@@ -4,8 +4,10 @@ ghost use Prim.Native.Nat.{_-_, _≤_};
 ghost use lib.Dec.{ltb};
 ghost use lib.ListN.{length};
 ghost use Rattle.format.specs.Answers.{stored};
+ghost use Rattle.format.specs.Encodings.{maxChunkElements};
 ghost use Rattle.format.specs.Parts.{extentAnswerOf};
 ghost use Rattle.format.specs.Runs.{validateRuns, validateRunLength, runLengthValues};
+ghost use Rattle.format.specs.Varint.{uvarintAt};
 use crate::near::read_length;
 use crate::near::settle_key;
 use codec::body::first_padded;
@@ -73,9 +75,9 @@ pub(crate) fn settle_body(chunk: &[u8], start: usize, count: usize, padded: Padd
     )
 }
 
-// Fills the column's front from a body.
+// Fills the column's front from a body that passed: it has no more runs than a chunk has values.
 pub(crate) fn fill(chunk: &[u8], start: usize, column: &mut [i64])
-    requires { ⌜ length (runLengthValues (now chunk) start) ≤ length (now column) ⌝ }
+    requires { ⌜ (uvarintAt (now chunk) start .value ≤ maxChunkElements) × (length (runLengthValues (now chunk) start) ≤ length (now column)) ⌝ }
     ensures { λ _. ⌜ now (column .exit) ≡ stored (runLengthValues (now (chunk .entry)) start) (now (column .entry)) ⌝ }
 {
     let total = find_any(chunk, start);

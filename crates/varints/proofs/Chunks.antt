@@ -5,11 +5,11 @@ use mathlib.Core.List.{List}
 use Prim.Native.Nat.{ℕ, _+_, _≤_, _<_}
 use native.Mathlib.Omega.{arith}
 use lib.IntN.{ℤ}
-use lib.ListN.{length, take}
+use lib.ListN.{length}
 use lib.Seq.{sets}
 use borrow.Author.Tests.{le-leb}
 use Rattle.format.specs.Outcome.{Outcome}
-use Rattle.format.specs.Answers.{answerOf, stored}
+use Rattle.format.specs.Answers.{answerOf}
 use Rattle.format.specs.Chunk.{bodyOf, validateBody, bodyValues}
 use Rattle.format.specs.Encodings.{maxChunkElements}
 use Rattle.format.specs.Header.{headerBytes, headerLen, named}
@@ -26,9 +26,9 @@ use Rattle.format.specs.declared.Padded.{Padded}
 use Rattle.format.proofs.codecs.Header.{length-headerBytes}
 use Rattle.codec.specs.Places.{fitting, laid, laidEnd}
 use Rattle.codec.specs.Refusals.{outcomeOf}
-use Rattle.keys.specs.Rows.{keyRows}
+use Rattle.keys.specs.Rows.{filledFrom}
 use Rattle.keys.proofs.Bodies.{all-alone}
-use Rattle.codec.proofs.Reading.{outcome-back, read-answer, read-untouched, read-filled, read-count, read-room}
+use Rattle.codec.proofs.Reading.{outcome-back, read-answer, read-untouched, read-filled, read-count, read-few, read-room}
 use Rattle.codec.proofs.Writing.{Written, body-room, chunk-stored, write-short, write-done}
 
 -- ---- writing
@@ -89,9 +89,10 @@ module _ (strict : Bool) (s : List ℕ) (column : List ℤ) {header : HeaderAnsw
       unfolding validateBody validateVarintBody
       inside = rw counted (read-room Varint strict s column h found refl asked r)
 
-      pub read-done : {out : List ℤ} → out ≡ stored (take (length column) (keyRows false s start n)) column
+      pub read-done : {out : List ℤ} → out ≡ filledFrom false s start n column
           → (Accepted n ≡ readAnswer strict (named 2) s (length column)) × (out ≡ readColumn strict (named 2) s column)
       unfolding validateBody validateVarintBody bodyValues
       read-done done =
-          let all = rw (all-alone s start n (length column) inside) at done in
+          let few : n ≤ maxChunkElements = rw counted (read-few Varint strict s column h found) in
+          let all = rw (all-alone s start n column few inside) at done in
           (sym r ∙ read-answer Varint strict s column h found refl asked, read-filled Varint strict s column h found refl asked r (rw counted at all))

@@ -1,8 +1,9 @@
--- `keys::fill_keys` meets its contract: the values stored, and those still to come as far as there is room, are the whole.
+-- `keys::fill_keys` meets its contract: more keys than a chunk can have are refused; else the values stored, and those still to come as far as there is room, are
+-- the whole.
 use Prim.Native.Nat.{_-_}
 use native.Mathlib.Omega.{arith}
 use borrow.Author.Needs.{needs}
-use Rattle.keys.proofs.Filling.{Filling, filling-none, filling-done, filling-room, filling-more}
+use Rattle.keys.proofs.Filling.{Filling, filling-refused, filling-none, filling-done, filling-room, filling-more}
 use Rattle.keys.proofs.fill_keys.Statement.{statement}
 use Rattle.keys.proofs.fill_keys.Tie as tie
 
@@ -11,6 +12,9 @@ Inv-loop chunk from n lengths column₀ next₀ at₀ counter₀ column next at 
 
 abbrev μ-loop : tie.MeasureT-loop
 μ-loop chunk from n lengths column₀ next₀ at₀ counter₀ column next at counter = n - counter
+
+returns : tie.Need-returns Inv-loop μ-loop
+returns c = filling-refused _ _ _ _ _ (c .if1 .taken)
 
 sub-copies : tie.Need-sub-copies Inv-loop μ-loop
 sub-copies c = c .before .before .before .loop .inv .room
@@ -34,11 +38,11 @@ loop-again c =
     filling-more (key .before .before .loop .inv) (search needs) (key .find-uvarint .ensures) (times .times-after .ensures) (copied .copies .ensures)
     (decoded .zigzag-decode .ok) (decoded .zigzag-decode .ensures) (c .before .fill-run .ensures)
 
-returns : tie.Need-returns Inv-loop μ-loop
-returns c = filling-done (c .before .loop .inv) (c .loop-test .left)
+returns-2 : tie.Need-returns-2 Inv-loop μ-loop
+returns-2 c = filling-done (c .before .loop .inv) (c .before .before .if1 .left) (c .loop-test .left)
 
 pub fill-keys-spec : {M : Type 1} → statement M
 fill-keys-spec =
     tie.close
-    (tie.spec Inv-loop μ-loop (λ c. filling-none) (λ c κs. search needs) (λ c κs. search needs) sub-copies (λ c κs. search needs) (λ c κs. search needs)
-    fill-run-requires add-at (λ c. search needs) (λ c. search needs) loop-again (λ c. search needs) returns)
+    (tie.spec Inv-loop μ-loop returns (λ c. filling-none) (λ c κs. search needs) (λ c κs. search needs) sub-copies (λ c κs. search needs) (λ c κs. search needs)
+    fill-run-requires add-at (λ c. search needs) (λ c. search needs) loop-again (λ c. search needs) returns-2)

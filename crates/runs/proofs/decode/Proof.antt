@@ -1,11 +1,13 @@
 -- `runs::decode` meets its contract: the header's answer, the body's and what `settle` makes of them are the whole reading; where it is accepted, the body passed and
 -- there is room, which is what `fill` asks.
 use mathlib.Core.Path.{_∙_}
+use native.Mathlib.Omega.{arith}
 use borrow.Author.Needs.{needs}
 use Rattle.format.specs.Chunk.{validateBody, bodyValues}
 use Rattle.format.specs.declared.Encoding.the-variants.{RunLength}
 use Rattle.format.proofs.codecs.Counts.{runLength-count}
-use Rattle.codec.proofs.Reading.{read-malformed, read-answer, read-untouched, read-filled, read-room, read-valid}
+use Rattle.codec.proofs.Reading.{read-malformed, read-answer, read-untouched, read-filled, read-few, read-room, read-valid}
+use Rattle.runs.proofs.Asks.{passed-few}
 use Rattle.runs.proofs.decode.Statement.{statement}
 use Rattle.runs.proofs.decode.Tie as tie
 
@@ -42,7 +44,9 @@ fill-requires c κs =
     let b = settled .before .settle-body .ensures in
     let accepted = c .before .enum-told2 .given .1 in
     let valid = read-valid RunLength (a .strict) (a .chunk .now) (a .column .now) h f b (settled .settle .ensures) accepted .1 in
-    rw (runLength-count (a .chunk .now) _ _ _ valid) (read-room RunLength (a .strict) (a .chunk .now) (a .column .now) h f b (settled .settle .ensures) accepted)
+    let room = read-room RunLength (a .strict) (a .chunk .now) (a .column .now) h f b (settled .settle .ensures) accepted in
+    let few = read-few RunLength (a .strict) (a .chunk .now) (a .column .now) h f in
+    (omega (arith, few, passed-few (a .chunk .now) _ _ _ valid), rw (runLength-count (a .chunk .now) _ _ _ valid) room)
 
 returns-3 : tie.Need-returns-3
 unfolding validateBody bodyValues
