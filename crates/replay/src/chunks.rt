@@ -12,6 +12,7 @@ use crate::records::counted;
 use crate::records::place_of;
 use crate::text;
 use format::Answer;
+use format::limits::MAX_CHUNK_ELEMENTS;
 use format::refusal::BUFFER_TOO_SHORT;
 
 // The name of a reading that names no encoding.
@@ -148,8 +149,8 @@ fn refused_holds(answer: Answer, number: u64, offset: u64, column: &[i64]) -> bo
 fn accepted(answer: Answer, r: &[u8], is_stored: bool, column: &[i64]) -> usize {
     let count = count_of(r) as usize;
     if count > column.len() {
-        let is_right = refused_holds(answer, BUFFER_TOO_SHORT as u64, count as u64, column);
-        return place_of(LARGE, is_right);
+        let is_refused = refused_holds(answer, BUFFER_TOO_SHORT as u64, count as u64, column);
+        return place_of(LARGE, is_refused & (count == MAX_CHUNK_ELEMENTS));
     }
     let is_right = answer_is(answer, 0, 0, count as u64)
         & buffers::keys_hold(column, r, is_stored, count_at(r) + 4, count);

@@ -4,7 +4,7 @@ use crate::buffers;
 use crate::fields;
 
 // More values than a record has.
-const VALUES: usize = 1024;
+pub(crate) const VALUES: usize = 1024;
 
 const FNV_START: u64 = 14695981039346656037;
 

@@ -9,11 +9,9 @@ use crate::fields::u8_at;
 use crate::fields::u32_at;
 use crate::fields::u64_at;
 use crate::made;
+use crate::made::VALUES;
 use crate::text;
 use format::Answer;
-
-// More values than a record has.
-const VALUES: usize = 1024;
 
 // What a buffer of values holds before a call: the bits of a key that is old.
 const OLD: u64 = 0x5a5a_5a5a_5a5a_5a5a;
