@@ -7,8 +7,8 @@ ghost use lib.Seq.{sets};
 ghost use Rattle.format.specs.Keys.{unzigzag};
 ghost use Rattle.format.specs.BitPacked.{bitPackedValues};
 ghost use Rattle.bitpacked.specs.Body.{Inside};
-use crate::block_len;
-use crate::bytes_for;
+use codec::block::block_len;
+use codec::block::packed_bytes;
 
 // The keys whose ZigZags a block has, stored in the column from `from` on.
 fn unzigzags(block: &[u64], column: &mut [i64], from: usize)
@@ -33,7 +33,7 @@ pub(crate) fn fill(chunk: &[u8], start: usize, count: usize, column: &mut [i64])
         let n = block_len(count - i);
         bitpack::unpack(&chunk[at..], width, n, &mut block);
         unzigzags(&block[..n], column, i);
-        at += bytes_for(n, width);
+        at += packed_bytes(n, width);
         i += n;
     }
 }

@@ -8,7 +8,7 @@ ghost use Rattle.format.specs.Keys.{zigzag};
 ghost use Rattle.format.specs.Packing.{packedLen, packed};
 ghost use Rattle.format.specs.Width.{width};
 ghost use Rattle.format.specs.Folds.{largest};
-use crate::block_len;
+use codec::block::block_len;
 use codec::place::put_packed;
 
 // The width of the largest ZigZag: that of all ZigZags' bits together, which are gathered faster than the largest is found.

@@ -1,4 +1,5 @@
 pub mod Numbers
+pub mod Blocks
 pub mod Settling
 pub mod Placing
 pub mod Rows

@@ -1,19 +1,22 @@
 -- The questions after the body's, by what is known of the reading, of the first padded varint and of the end; and the last ones of a packed body, by its length.
-use mathlib.Core.Path.{_≡_}
+use mathlib.Core.Path.{_≡_, _∙_}
 use mathlib.Core.Bool.{Bool, true, false}
 use mathlib.Core.List.{List}
-use Prim.Native.Nat.{ℕ, _+_, _-_, _*_, _/_, _<_, _≤_}
+use Prim.Native.Nat.{ℕ, _+_, _-_, _<_, _≤_}
 use native.Mathlib.Omega.{arith}
 use lib.ListN.{length, getD}
 use borrow.Author.Tests.{eq-eqb, ne-eqb, le-leb, lt-leb, lt-ltb}
 use Rattle.format.specs.Outcome.{refused, ok}
+use Rattle.format.specs.Answers.{countOf}
 use Rattle.format.specs.Encodings.{maxChunkElements}
 use Rattle.format.specs.Packing.{packedLen, widthAt, packedEnd}
 use Rattle.format.specs.Parts.{settled, packedExtent}
 use Rattle.format.specs.Read.{strictChecks}
+use Rattle.format.specs.Standalone.{packedLenAnswer}
 use Rattle.format.specs.declared.Padded.{Padded}
 use Rattle.format.specs.declared.Padded.the-variants.{Nowhere, At}
 use Rattle.codec.specs.Refusals.{extent, roomOutcome}
+use Rattle.codec.proofs.Blocks.{packed-counted}
 
 module _ (s : List ℕ) (count room end : ℕ) where
   pub settled-loose : {strict : Bool} (padded : Padded) → strict ≡ false → settled strict s count room (ok (extent end padded)) ≡ roomOutcome count room
@@ -35,16 +38,18 @@ module _ (s : List ℕ) (count room end : ℕ) where
 
 -- ---- a packed body
 
-module _ (s : List ℕ) (at count : ℕ) (padded : Padded) (few : count ≤ maxChunkElements) (there : at < length s) (narrow : getD s at 0 ≤ 64) where
-  pub packed-cut : length s - at - 1 < (count * getD s at 0 + 7) / 8 → packedExtent s at count padded ≡ refused 13 (length s - at - 1)
-  unfolding packedExtent widthAt packedEnd packedLen
-  packed-cut h =
-      let e : length s - (at + 1) ≡ length s - at - 1 = omega arith in
-      rw (le-leb count maxChunkElements few, lt-ltb at (length s) there, le-leb (getD s at 0) 64 narrow, e, lt-leb ((count * getD s at 0 + 7) / 8) (length s - at - 1) h)
+module _ (s : List ℕ) (at count : ℕ) (padded : Padded) (few : count ≤ maxChunkElements) (there : at < length s) (narrow : getD s at 0 ≤ 64)
+    {needed : ℕ} (e : needed ≡ countOf (packedLenAnswer count (getD s at 0))) where
+  long : needed ≡ packedLen count (getD s at 0)
+  long = e ∙ packed-counted count (getD s at 0) few narrow
 
-  pub packed-whole : (count * getD s at 0 + 7) / 8 ≤ length s - at - 1
-      → packedExtent s at count padded ≡ ok (extent (at + 1 + (count * getD s at 0 + 7) / 8) padded)
-  unfolding packedExtent widthAt packedEnd packedLen
-  packed-whole h =
-      let e : length s - (at + 1) ≡ length s - at - 1 = omega arith in
-      rw (le-leb count maxChunkElements few, lt-ltb at (length s) there, le-leb (getD s at 0) 64 narrow, e, le-leb ((count * getD s at 0 + 7) / 8) (length s - at - 1) h)
+  rest : length s - (at + 1) ≡ length s - at - 1
+  rest = omega arith
+
+  pub packed-cut : length s - at - 1 < needed → packedExtent s at count padded ≡ refused 13 (length s - at - 1)
+  unfolding packedExtent widthAt packedEnd
+  packed-cut h = rw (le-leb count maxChunkElements few, lt-ltb at (length s) there, le-leb (getD s at 0) 64 narrow, rest, ← long, lt-leb needed (length s - at - 1) h)
+
+  pub packed-whole : needed ≤ length s - at - 1 → packedExtent s at count padded ≡ ok (extent (at + 1 + needed) padded)
+  unfolding packedExtent widthAt packedEnd
+  packed-whole h = rw (le-leb count maxChunkElements few, lt-ltb at (length s) there, le-leb (getD s at 0) 64 narrow, rest, ← long, le-leb needed (length s - at - 1) h)

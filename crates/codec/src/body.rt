@@ -6,6 +6,7 @@ ghost use Rattle.format.specs.Answers.{answerOf};
 ghost use Rattle.format.specs.Varint.{firstPadded, validateUvarints};
 ghost use Rattle.format.specs.Parts.{extentAnswerOf, packedExtent, settled};
 ghost use Rattle.codec.specs.Refusals.{extentRefusal, extent, outcomeOf, roomOutcome};
+use crate::block::packed_bytes;
 use format::Answer;
 use format::ExtentAnswer;
 use format::Padded;
@@ -68,7 +69,7 @@ pub fn settle_packed(chunk: &[u8], at: usize, count: usize, padded: Padded) -> E
     if w > 64 {
         return ExtentAnswer::Malformed(format::refusal::WIDTH_ABOVE_64, 0);
     }
-    let needed = (count * w as usize + 7) / 8;
+    let needed = packed_bytes(count, w as u32);
     let rest = chunk.len() - at - 1;
     if rest < needed {
         return ExtentAnswer::Malformed(format::refusal::PACKED_CUT, rest);

@@ -6,6 +6,7 @@ ghost use Rattle.format.specs.Parts.{encodingAnswer};
 use format::Encoding;
 use format::EncodingAnswer;
 
+pub mod block;
 pub mod body;
 pub mod header;
 pub mod place;

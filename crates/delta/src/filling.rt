@@ -7,8 +7,9 @@ ghost use Rattle.format.specs.Answers.{stored};
 ghost use Rattle.format.specs.Delta.{blockCount, blockDeltas, deltaValues};
 ghost use Rattle.delta.specs.Summed.{fromLeast, summed};
 ghost use Rattle.delta.specs.There.{BlocksThere, BodyThere};
-use crate::counts::at_most;
-use crate::counts::packed_bytes;
+use codec::block::at_most;
+use codec::block::block_len;
+use codec::block::packed_bytes;
 use format::UvarintAnswer;
 use format::VarintAnswer;
 use number::of_bits;
@@ -51,7 +52,7 @@ fn fill_block(
     let mut last = from;
     let mut left = n;
     while left > 0 {
-        let part = at_most(left, 128);
+        let part = block_len(left);
         bitpack::unpack(&chunk[at..], width, part, &mut block);
         add_offsets(&block[..part], least, column, last);
         at += packed_bytes(part, width);

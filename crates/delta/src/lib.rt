@@ -21,7 +21,6 @@ use format::limits::MAX_CHUNK_ELEMENTS;
 use format::refusal::BUFFER_TOO_SHORT;
 use format::refusal::COLUMN_ABOVE_LIMIT;
 
-pub(crate) mod counts;
 pub(crate) mod filling;
 pub(crate) mod settling;
 pub(crate) mod writing;

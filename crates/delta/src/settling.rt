@@ -5,7 +5,7 @@ ghost use Rattle.format.specs.Encodings.{maxChunkElements};
 ghost use Rattle.format.specs.Parts.{extentAnswerOf};
 ghost use Rattle.format.specs.Delta.{blockCount, validateBlocks, validateDelta};
 ghost use Rattle.delta.specs.There.{blockExtent};
-use crate::counts::at_most;
+use codec::block::at_most;
 use codec::body::first_padded;
 use codec::body::malformed;
 use codec::body::settle_packed;

@@ -1,13 +1,11 @@
 // Encoding 4, FrameOfReference: the least value, a width byte, and the differences from the least value packed at that width (the
 // Rust's `FrameOfReferenceCodec`).
 ghost use mathlib.Core.Path.{_≡_};
-ghost use Prim.Native.Nat.{_≤_, min};
 ghost use lib.ListN.{length};
-ghost use Rattle.format.specs.Encodings.{maxChunkElements};
-ghost use Rattle.format.specs.Packing.{packedLen};
 ghost use Rattle.format.specs.Header.{named};
 ghost use Rattle.format.specs.Read.{readAnswer, readColumn};
 ghost use Rattle.format.specs.Write.{writeAnswer, writeOutput};
+use codec::block::packed_bytes;
 use codec::body::settle;
 use codec::header::header_len;
 use codec::header::put_header;
@@ -23,21 +21,6 @@ use format::refusal::COLUMN_ABOVE_LIMIT;
 pub(crate) mod reading;
 pub(crate) mod writing;
 
-// How many of the values that are left a block has.
-fn block_len(left: usize) -> usize
-    ensures { λ r. ⌜ r ≡ min left 128 ⌝ }
-{
-    if left < 128 { left } else { 128 }
-}
-
-// Bytes for count values of `width` bits.
-fn bytes_for(count: usize, width: u32) -> usize
-    requires { ⌜ (count ≤ maxChunkElements) × (width ≤ 64) ⌝ }
-    ensures { λ r. ⌜ r ≡ packedLen count width ⌝ }
-{
-    (count * width as usize + 7) / 8
-}
-
 // Writes the column's chunk to the front of `out`.
 pub fn encode(column: &[i64], out: &mut [u8]) -> Answer
     ensures { λ r. ⌜ r ≡ writeAnswer 4 (now (column .entry)) 0 (length (now (out .entry))) ⌝ }
@@ -47,7 +30,7 @@ pub fn encode(column: &[i64], out: &mut [u8]) -> Answer
         return Answer::Refused(COLUMN_ABOVE_LIMIT, 0);
     }
     let fit = writing::fit_of(column);
-    let needed = header_len(column.len()) + 9 + bytes_for(column.len(), fit.width);
+    let needed = header_len(column.len()) + 9 + packed_bytes(column.len(), fit.width);
     if out.len() < needed {
         return Answer::Refused(BUFFER_TOO_SHORT, needed);
     }

@@ -11,8 +11,8 @@ ghost use Rattle.format.specs.Frame.{validateFrame, frameValues};
 ghost use Rattle.format.specs.Parts.{extentAnswerOf};
 ghost use Rattle.format.proofs.numbers.Words.{sum8};
 ghost use Rattle.bitpacked.specs.Body.{Inside};
-use crate::block_len;
-use crate::bytes_for;
+use codec::block::block_len;
+use codec::block::packed_bytes;
 use codec::body::settle_packed;
 use format::ExtentAnswer;
 use format::Padded;
@@ -81,7 +81,7 @@ pub(crate) fn fill(chunk: &[u8], start: usize, count: usize, column: &mut [i64])
         let n = block_len(count - i);
         bitpack::unpack(&chunk[at..], width, n, &mut block);
         sums(&block[..n], least, column, i);
-        at += bytes_for(n, width);
+        at += packed_bytes(n, width);
         i += n;
     }
 }

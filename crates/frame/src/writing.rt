@@ -7,7 +7,7 @@ ghost use lib.Seq.{sets};
 ghost use Rattle.format.specs.Keys.{gap, lesser, greater, keyBytes};
 ghost use Rattle.format.specs.Packing.{packedLen, packed};
 ghost use Rattle.frame.specs.Fit.{Fitted};
-use crate::block_len;
+use codec::block::block_len;
 use codec::place::put_key;
 use codec::place::put_packed;
 

@@ -1,17 +1,19 @@
 -- Header, least value, width byte and packed differences are the chunk, and what is measured is its length.
-use mathlib.Core.Path.{_≡_, refl}
+use mathlib.Core.Path.{_≡_, refl, _∙_}
 use Prim.Native.Nat.{_+_, _≤_}
 use native.Mathlib.Omega.{arith}
 use lib.ListN.{length}
 use denote.Ref.{now}
 use borrow.Author.Needs.{needs}
 use Rattle.format.specs.Keys.{Key}
+use Rattle.format.specs.Packing.{packedLen}
 use Rattle.format.specs.Header.{headerLen}
 use Rattle.format.specs.Chunk.{bodyOf}
 use Rattle.format.specs.declared.Encoding.the-variants.{FrameOfReference}
 use Rattle.format.proofs.lengths.Limits.{headerLen-most}
 use Rattle.format.proofs.numbers.Packing.{packedLen-most}
 use Rattle.format.proofs.numbers.Widths.{width-le}
+use Rattle.codec.proofs.Blocks.{packed-counted}
 use Rattle.codec.proofs.Writing.{body-room, chunk-stored, write-many, write-short, write-done}
 use Rattle.bitpacked.proofs.Held.{held}
 use Rattle.frame.proofs.Body.{body-length, body-is}
@@ -26,20 +28,23 @@ returns c = let a = c .before .before .args in write-many FrameOfReference (now 
 narrow : (c : tie.After-fit-of) → c .fit-of .result .width ≤ 64
 narrow c = rw (c .fit-of .ensures .widest) (width-le _)
 
-abbrev entry : tie.After-bytes-for → tie.Start
+abbrev entry : tie.After-packed-bytes → tie.Start
 entry c = c .before .before .before .before .before
 
+counted : (c : tie.After-packed-bytes) → c .packed-bytes .result ≡ packedLen (length (now (entry c .args .column))) (c .before .before .fit-of .result .width)
+counted c = c .packed-bytes .ensures ∙ packed-counted _ _ (c .before .before .before .if1 .left) (narrow (c .before .before))
+
 -- the length of the chunk
-measured : (c : tie.After-bytes-for)
+measured : (c : tie.After-packed-bytes)
     → let column = now (entry c .args .column) in
-    c .before .header-len .result + 9 + c .bytes-for .result ≡ headerLen (length column) + length (bodyOf FrameOfReference column)
-measured c = omega (arith, c .before .header-len .ensures, c .bytes-for .ensures, body-length (now (entry c .args .column)) (c .before .before .fit-of .ensures))
+    c .before .header-len .result + 9 + c .packed-bytes .result ≡ headerLen (length column) + length (bodyOf FrameOfReference column)
+measured c = omega (arith, c .before .header-len .ensures, counted c, body-length (now (entry c .args .column)) (c .before .before .fit-of .ensures))
 
 fits : tie.Need-add-needed-2
 fits c =
     let few = c .before .before .before .if1 .left in
     let bytes = packedLen-most (length (now (entry c .args .column))) (c .before .before .fit-of .result .width) (narrow (c .before .before)) in
-    omega (arith, c .before .header-len .ensures, headerLen-most (length (now (entry c .args .column))) few, few, c .bytes-for .ensures, bytes)
+    omega (arith, c .before .header-len .ensures, headerLen-most (length (now (entry c .args .column))) few, few, counted c, bytes)
 
 returns-2 : tie.Need-returns-2
 returns-2 c =
@@ -48,11 +53,11 @@ returns-2 c =
 
 -- ---- what is stored
 
-abbrev after : tie.After-put-header → tie.After-bytes-for
+abbrev after : tie.After-put-header → tie.After-packed-bytes
 after c = c .before .before .before
 
 there : (c : tie.After-put-header)
-    → after c .before .header-len .result + 9 + after c .bytes-for .result ≤ length (now (entry (after c) .args .out))
+    → after c .before .header-len .result + 9 + after c .packed-bytes .result ≤ length (now (entry (after c) .args .out))
 there c = c .before .before .if2 .left
 
 store-requires : tie.Need-store-requires
@@ -83,7 +88,7 @@ encode-spec =
     (λ c κs. search needs)
     (λ c κs. search needs)
     (λ c. omega (arith, c .header-len .ensures, headerLen-most _ (c .before .before .if1 .left)))
-    (λ c κs. (c .before .before .if1 .left, narrow (c .before)))
+    (λ c κs. search needs)
     fits
     returns-2
     (λ c κs. search needs)

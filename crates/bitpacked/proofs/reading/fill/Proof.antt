@@ -2,13 +2,15 @@
 use mathlib.Core.Path.{_≡_, refl, sym, _∙_}
 use Prim.Native.Nat.{_+_, _-_, _≤_}
 use native.Mathlib.Omega.{arith}
-use lib.ListN.{length, take}
+use lib.ListN.{length, getD, take}
 use lib.Seq.{length-take-le}
 use denote.Ref.{now}
 use borrow.Author.Needs.{needs}
+use Rattle.format.specs.Packing.{packedLen}
 use Rattle.format.specs.Keys.{unzigzag}
 use Rattle.format.specs.BitPacked.{bitPackedValues}
 use Rattle.format.proofs.numbers.All.{Below, all-by}
+use Rattle.codec.proofs.Blocks.{packed-counted}
 use Rattle.bitpacked.proofs.Filling.{Filling, filling-none, filling-more, filling-room, filling-done}
 use Rattle.bitpacked.proofs.reading.fill.Statement.{statement}
 use Rattle.bitpacked.proofs.reading.fill.Tie as tie
@@ -39,13 +41,20 @@ unzigzags-requires c κs =
     let g = turn u .before .before .loop .inv .1 in
     omega (arith, front u, g .passed, g .storing .long, turn u .block-len .ensures)
 
--- the block's bytes are there
-room : (c : tie.After-bytes-for Inv-loop μ-loop)
+-- the block's bytes, and that they are there
+counted : (c : tie.After-packed-bytes Inv-loop μ-loop)
+    → let t = turn (c .before .before .before .before .before .before) in
+    c .packed-bytes .result ≡ packedLen (t .block-len .result) (getD (now (t .before .before .before .before .before .args .chunk)) (t .before .before .before .before .before .args .start) 0)
+counted c =
+    let t = turn (c .before .before .before .before .before .before) in
+    c .packed-bytes .ensures ∙ packed-counted _ _ (omega (arith, t .block-len .ensures)) (t .before .before .before .before .before .pre .0 .width)
+
+room : (c : tie.After-packed-bytes Inv-loop μ-loop)
     → let u = c .before .before .before .before .before .before in
-    turn u .before .before .loop .at + c .bytes-for .result ≤ length (now (turn u .before .before .before .before .before .args .chunk))
+    turn u .before .before .loop .at + c .packed-bytes .result ≤ length (now (turn u .before .before .before .before .before .args .chunk))
 room c =
     let t = turn (c .before .before .before .before .before .before) in
-    rw (c .bytes-for .ensures) (filling-room unzigzag _ _ (t .before .before .loop .inv .1) (t .block-len .ensures))
+    rw (counted c) (filling-room unzigzag _ _ (t .before .before .loop .inv .1) (t .block-len .ensures))
 
 loop-again : tie.Need-loop-again Inv-loop μ-loop
 loop-again c =
@@ -55,7 +64,7 @@ loop-again c =
     let entry = t .before .before .before .before .before in
     let bytes : Below 256 (now (entry .args .chunk)) = all-by (now (entry .args .chunk)) 0 λ i _. t .before .before .before .shared-slice-known2 .given i .fits in (
       long u,
-      rw (c .bytes-for .ensures)
+      rw (counted c)
           (filling-more unzigzag _ _ (l .inv .1) (t .block-len .ensures) (l .block) bytes (entry .pre .0 .width) (omega (arith, l .inv .0, t .block-len .ensures))
           (u .unpack .ensures .1) (c .before .before .unzigzags .ensures)),
     )

@@ -8,8 +8,10 @@ use mir.Syntax.{w64}
 use mir.Val.{toZ}
 use denote.Ref.{now}
 use borrow.Author.Needs.{needs}
+use Rattle.format.specs.Packing.{packedLen}
 use Rattle.format.proofs.numbers.All.{all-by}
 use Rattle.bitpack.proofs.Parts.{part-rest}
+use Rattle.codec.proofs.Blocks.{packed-counted}
 use Rattle.delta.proofs.Held.{held}
 use Rattle.delta.proofs.Parts.{Parts, parts-none, parts-more, parts-done, parts-end, part-there}
 use Rattle.delta.proofs.filling.fill_block.Statement.{statement}
@@ -42,15 +44,24 @@ add-offsets-requires : tie.Need-add-offsets-requires Inv-loop μ-loop
 add-offsets-requires c κs =
     let u = c .before .before .before in
     let l = turn u .loop in
-    omega (arith, length-take (u .before .before .before .at-most .result) (u .unpack .last .1 .1 .1 .0), l .inv .count, l .inv .sums .long)
+    omega (arith, length-take (u .before .before .before .block-len .result) (u .unpack .last .1 .1 .1 .0), l .inv .count, l .inv .sums .long)
+
+-- the bytes of the part that was unpacked
+counted : (c : tie.After-packed-bytes Inv-loop μ-loop)
+    → let u = c .before .before .before .before .before .before in
+    let e = entry (turn u) in
+    c .packed-bytes .result ≡ packedLen (u .before .before .before .block-len .result) (getD (now (e .args .chunk)) (e .args .start) 0)
+counted c =
+    let u = c .before .before .before .before .before .before in
+    c .packed-bytes .ensures ∙ packed-counted _ _ (omega (arith, u .before .before .before .block-len .ensures)) (entry (turn u) .pre .0)
 
 add-at-2 : tie.Need-add-at-2 Inv-loop μ-loop
 add-at-2 c =
     let u = c .before .before .before .before .before .before in
     let l = turn u .loop in
     let e = entry (turn u) in
-    let part = u .before .before .before .at-most in
-    omega (arith, part-there (now (e .args .chunk)) _ _ _ (e .args .n) (e .args .from) (l .at) (l .last) (l .left) (l .inv) (part .ensures) (e .pre .1 .0))
+    let part = u .before .before .before .block-len in
+    omega (arith, counted c, part-there (now (e .args .chunk)) _ _ _ (e .args .n) (e .args .from) (l .at) (l .last) (l .left) (l .inv) (part .ensures) (e .pre .1 .0))
 
 loop-again : tie.Need-loop-again Inv-loop μ-loop
 loop-again c =
@@ -58,9 +69,9 @@ loop-again c =
     let l = turn u .loop in
     let e = entry (turn u) in
     let s = now (e .args .chunk) in
-    let part = u .before .before .before .at-most in
+    let part = u .before .before .before .block-len in
     let bytes = all-by s 0 λ i _. turn u .before .shared-slice-known2 .given i .fits in
-    parts-more s _ _ _ (e .args .n) (e .args .from) (l .at) (l .last) (l .left) (l .inv) (part .result) (part .ensures) (c .packed-bytes .ensures) bytes
+    parts-more s _ _ _ (e .args .n) (e .args .from) (l .at) (l .last) (l .left) (l .inv) (part .result) (part .ensures) (counted c) bytes
     (e .pre .0) (e .pre .1 .0) (e .pre .1 .1) (rw (part-rest (l .at) s) at (u .unpack .ensures .1)) (buffer-size u) (c .before .before .add-offsets .ensures)
 
 returns : tie.Need-returns Inv-loop μ-loop

@@ -1,7 +1,8 @@
 -- `writing::block_len` meets its contract: the bounds give the width, and the length is that of the varint, the width byte and the packed offsets.
 use mathlib.Core.Path.{_≡_, sym, ap, ap₂, _∙_}
-use Prim.Native.Nat.{ℕ, _+_}
+use Prim.Native.Nat.{ℕ, _+_, _-_}
 use native.Mathlib.Omega.{arith}
+use lib.ListN.{length}
 use denote.Ref.{now}
 use borrow.Author.Needs.{needs}
 use Rattle.format.specs.Keys.{gap}
@@ -11,6 +12,7 @@ use Rattle.format.specs.Packing.{packedLen}
 use Rattle.format.specs.Folds.{least, greatest, deltas}
 use Rattle.format.proofs.numbers.Keys.{varintLen-le}
 use Rattle.format.proofs.numbers.Widths.{width-le}
+use Rattle.codec.proofs.Blocks.{packed-counted}
 use Rattle.delta.proofs.Held.{low-held, span-held}
 use Rattle.delta.proofs.Measured.{block-length, block-limit}
 use Rattle.delta.proofs.Windows.{length-deltas}
@@ -32,15 +34,17 @@ span c =
 add-result : tie.Need-add-result
 add-result c = omega (arith, first-len c, varintLen-le (least (deltas (now (c .before .before .before .before .args .window)))))
 
-packed-bytes-requires : tie.Need-packed-bytes-requires
-packed-bytes-requires c κs =
-    let ds = deltas (now (c .before .before .before .before .before .args .window)) in
-    (omega arith, omega (arith, span c, width-le (gap (least ds) (greatest ds))))
+counted : (c : tie.After-packed-bytes)
+    → let window = now (c .before .before .before .before .before .before .args .window) in
+    c .packed-bytes .result ≡ packedLen (length window - 1) (c .before .span-width .result)
+counted c =
+    let ds = deltas (now (c .before .before .before .before .before .before .args .window)) in
+    c .packed-bytes .ensures ∙ packed-counted _ _ (omega arith) (omega (arith, span (c .before), width-le (gap (least ds) (greatest ds))))
 
 returns : tie.Need-returns
 returns c =
     let window = now (c .before .before .before .before .before .before .args .window) in
-    let rest = c .packed-bytes .ensures ∙ ap₂ packedLen (sym (length-deltas window)) (span (c .before)) in
+    let rest = counted c ∙ ap₂ packedLen (sym (length-deltas window)) (span (c .before)) in
     ap₂ (λ (a b : ℕ). a + 1 + b) (first-len (c .before .before)) rest ∙ sym (block-length window)
 
 add-result-2 : tie.Need-add-result-2
@@ -51,4 +55,4 @@ add-result-2 c =
 pub block-len-spec : {M : Type 1} → statement M
 block-len-spec =
     tie.close
-    (tie.spec (λ c κs. search needs) (λ c κs. search needs) add-result (λ c. search needs) (λ c κs. search needs) packed-bytes-requires add-result-2 returns)
+    (tie.spec (λ c κs. search needs) (λ c κs. search needs) add-result (λ c. search needs) (λ c κs. search needs) (λ c κs. search needs) add-result-2 returns)

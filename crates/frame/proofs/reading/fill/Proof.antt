@@ -4,15 +4,17 @@ use mathlib.Core.List.{map}
 use Prim.Native.Nat.{_+_, _-_, _≤_}
 use native.Mathlib.Omega.{arith}
 use lib.IntN.{ℤ, pos}
-use lib.ListN.{length, take}
+use lib.ListN.{length, getD, take}
 use lib.Seq.{sets, length-take-le}
 use mir.Syntax.{w64}
 use mir.Val.{toZ, ofZ}
 use denote.Ref.{now}
 use borrow.Author.Needs.{needs}
+use Rattle.format.specs.Packing.{packedLen}
 use Rattle.format.specs.Keys.{asSigned, wrappingAdd, keyAt}
 use Rattle.format.specs.Frame.{frameValues}
 use Rattle.format.proofs.numbers.All.{Below, all-by}
+use Rattle.codec.proofs.Blocks.{packed-counted}
 use Rattle.bitpacked.proofs.Held.{held}
 use Rattle.bitpacked.proofs.Filling.{Filling, filling-none, filling-more, filling-room, filling-done}
 use Rattle.frame.proofs.Differences.{key-loaded}
@@ -62,13 +64,20 @@ sums-requires c κs =
     let g = turn u .before .before .loop .inv .1 in
     omega (arith, front u, g .passed, g .storing .long, turn u .block-len .ensures)
 
--- the block's bytes are there
-room : (c : tie.After-bytes-for Inv-loop μ-loop)
+-- the block's bytes, and that they are there
+counted : (c : tie.After-packed-bytes Inv-loop μ-loop)
     → let t = turn (c .before .before .before .before .before .before) in
-    t .before .before .loop .at + c .bytes-for .result ≤ length (now (entry (t .before .before .before) .args .chunk))
+    c .packed-bytes .result ≡ packedLen (t .block-len .result) (getD (now (entry (t .before .before .before) .args .chunk)) (entry (t .before .before .before) .args .start + 8) 0)
+counted c =
+    let t = turn (c .before .before .before .before .before .before) in
+    c .packed-bytes .ensures ∙ packed-counted _ _ (omega (arith, t .block-len .ensures)) (entry (t .before .before .before) .pre .0 .width)
+
+room : (c : tie.After-packed-bytes Inv-loop μ-loop)
+    → let t = turn (c .before .before .before .before .before .before) in
+    t .before .before .loop .at + c .packed-bytes .result ≤ length (now (entry (t .before .before .before) .args .chunk))
 room c =
     let t = turn (c .before .before .before .before .before .before) in
-    rw (c .bytes-for .ensures) (filling-room _ _ _ (t .before .before .loop .inv .1) (t .block-len .ensures))
+    rw (counted c) (filling-room _ _ _ (t .before .before .loop .inv .1) (t .block-len .ensures))
 
 loop-again : tie.Need-loop-again Inv-loop μ-loop
 loop-again c =
@@ -78,7 +87,7 @@ loop-again c =
     let first = t .before .before .before in
     let keys = ap (λ (z : ℤ). sets (l .column) (l .i) (map (λ n. wrappingAdd z (pos n)) (take (t .block-len .result) (u .unpack .last .1 .1 .1 .0)))) (loaded first) in (
       long u,
-      rw (c .bytes-for .ensures)
+      rw (counted c)
           (filling-more _ _ _ (l .inv .1) (t .block-len .ensures) (l .block) (bytes first) (entry first .pre .0 .width) (omega (arith, l .inv .0, t .block-len .ensures))
           (u .unpack .ensures .1) (c .before .before .sums .ensures ∙ keys)),
     )
