@@ -1,4 +1,3 @@
-pub mod Held
 pub mod Widest
 pub mod Mapped
 pub mod Filling

@@ -1,37 +1,15 @@
 -- The least and the greatest delta of a window in one walk: the least of what was found and of what is left is the least of all, and so with the greatest. And the
 -- offsets of a window's deltas from the least, stored one by one.
 use mathlib.Core.Path.{_≡_, sym, ap, _∙_}
-use mathlib.Core.Bool.{true, false}
 use mathlib.Core.List.{List, [], _∷_, map}
 use Prim.Native.Nat.{ℕ, _+_, _≤_, _<_}
 use native.Mathlib.Omega.{arith}
 use lib.IntN.{ℤ, pos}
-use lib.Signed.{ltZ}
 use lib.ListN.{length, getD, set, drop}
 use Rattle.format.specs.Keys.{gap, delta, lesser, greater}
 use Rattle.format.specs.Folds.{leastFrom, least, greatestFrom, greatest, deltas}
 use Rattle.format.proofs.numbers.Stores.{Storing, storing-one}
 use Rattle.delta.proofs.Windows.{next-delta, no-delta}
-
--- ---- the lesser and the greater of two, by the test
-
-pub lesser-second : (a b : ℤ) → ltZ b a ≡ true → b ≡ lesser a b
-unfolding lesser
-lesser-second a b t = rw t
-
-pub lesser-first : (a b : ℤ) → ltZ b a ≡ false → a ≡ lesser a b
-unfolding lesser
-lesser-first a b t = rw t
-
-pub greater-second : (a b : ℤ) → ltZ a b ≡ true → b ≡ greater a b
-unfolding greater
-greater-second a b t = rw t
-
-pub greater-first : (a b : ℤ) → ltZ a b ≡ false → a ≡ greater a b
-unfolding greater
-greater-first a b t = rw t
-
--- ---- of all
 
 -- low and high are those of the deltas before i
 pub record Bounding (window : List ℤ) (low high : ℤ) (i : ℕ) : Type 0 where

@@ -5,7 +5,7 @@ ghost use Prim.Native.Nat.{_+_, _≤_, _<_};
 ghost use lib.IntN.{pos};
 ghost use lib.ListN.{length, getD};
 ghost use lib.Seq.{sets};
-ghost use Rattle.format.specs.Keys.{gap, delta, lesser, greater};
+ghost use Rattle.format.specs.Keys.{gap, delta};
 ghost use Rattle.format.specs.Width.{width};
 ghost use Rattle.format.specs.Encodings.{maxChunkElements};
 ghost use Rattle.format.specs.Folds.{least, greatest, deltas};
@@ -24,18 +24,6 @@ use number::wrapping_sub;
 struct Bounds {
     low: i64,
     high: i64,
-}
-
-fn lesser_key(a: i64, b: i64) -> i64
-    ensures { λ r. ⌜ r ≡ lesser a b ⌝ }
-{
-    if b < a { b } else { a }
-}
-
-fn greater_key(a: i64, b: i64) -> i64
-    ensures { λ r. ⌜ r ≡ greater a b ⌝ }
-{
-    if a < b { b } else { a }
 }
 
 // The delta at a place of a window.
@@ -57,8 +45,8 @@ fn bounds_of(window: &[i64]) -> Bounds
     let mut i: usize = 1;
     while i + 1 < window.len() {
         let delta = delta_at(window, i);
-        low = lesser_key(low, delta);
-        high = greater_key(high, delta);
+        low = number::lesser(low, delta);
+        high = number::greater(high, delta);
         i += 1;
     }
     Bounds { low, high }

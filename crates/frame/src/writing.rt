@@ -4,7 +4,7 @@ ghost use mathlib.Core.List.{_∷_, _++_, map};
 ghost use Prim.Native.Nat.{_+_, _≤_};
 ghost use lib.ListN.{length};
 ghost use lib.Seq.{sets};
-ghost use Rattle.format.specs.Keys.{gap, lesser, greater, keyBytes};
+ghost use Rattle.format.specs.Keys.{gap, keyBytes};
 ghost use Rattle.format.specs.Packing.{packedLen, packed};
 ghost use Rattle.frame.specs.Fit.{Fitted};
 use codec::block::block_len;
@@ -15,18 +15,6 @@ use codec::place::put_packed;
 pub(crate) struct Fit {
     pub least: i64,
     pub width: u32,
-}
-
-fn lesser_of(a: i64, b: i64) -> i64
-    ensures { λ r. ⌜ r ≡ lesser a b ⌝ }
-{
-    if b < a { b } else { a }
-}
-
-fn greater_of(a: i64, b: i64) -> i64
-    ensures { λ r. ⌜ r ≡ greater a b ⌝ }
-{
-    if a < b { b } else { a }
 }
 
 // How far a value lies above the least: it may be any number of 64 bits.
@@ -47,8 +35,8 @@ pub(crate) fn fit_of(column: &[i64]) -> Fit
     let mut greatest = least;
     for i in 1..column.len() {
         let value = column[i];
-        least = lesser_of(least, value);
-        greatest = greater_of(greatest, value);
+        least = number::lesser(least, value);
+        greatest = number::greater(greatest, value);
     }
     Fit {
         least,

@@ -3,6 +3,7 @@
 use mathlib.Core.Path.{_≡_, refl, sym, ap, _∙_}
 use mathlib.Core.Bool.{Bool, true, false, cond}
 use Prim.Native.Nat.{ℕ, zero, suc, _+_, _-_, _%_, _^_, _<_}
+use native.Mathlib.Nat.{mod-eq-of-lt}
 use native.Mathlib.Omega.{arith}
 use lib.Dec.{ltb}
 use lib.IntN.{ℤ, pos, negsuc, _-ℤ_, negℤ, predℤ, +ℤ-idl, -ℤ-one, -ℤ-+ℤ-cancel}
@@ -11,8 +12,8 @@ use borrow.Author.Tests.{ltb-true}
 use mir.Syntax.{w64}
 use mir.Val.{SFits, toZ, ofZ, sel}
 use mir.Facts.{toZ-ofZ, toZ-pos}
-use Rattle.format.specs.Keys.{residue, asSigned, gap}
-use Rattle.format.proofs.numbers.Keys.{residue-lt, residue-add, residue-asSigned, gap-lt}
+use Rattle.format.specs.Keys.{Key, residue, asSigned, gap, delta, wrappingAdd}
+use Rattle.format.proofs.numbers.Keys.{residue-lt, residue-add, residue-asSigned, gap-lt, wrappingAdd-residue}
 
 -- ---- the sign, as a test leaves it
 
@@ -33,6 +34,10 @@ module _ (z : ℤ) (f : SFits w64 z) where
 
 -- ---- bits
 
+-- a key that is read from a column or comes from a call, back from the bits that the machine holds
+pub held : (v : ℤ) → Key v → toZ w64 (ofZ w64 v) ≡ v
+held v h = toZ-ofZ (record { sfits = h })
+
 -- bits read as signed
 pub asSigned-toZ : (n : ℕ) → asSigned n ≡ toZ w64 n
 unfolding asSigned
@@ -51,6 +56,15 @@ pub complement : (n : ℕ) → n < 2 ^ 63 → toZ w64 (18446744073709551615 - (2
 complement n h = let e : 18446744073709551615 - (2 ^ 64 - suc n) ≡ n = omega arith in rw e (toZ-pos w64 h)
 
 -- ---- differences
+
+-- the bits of a delta are the gap
+pub delta-bits : (a b : ℤ) → residue (delta a b) ≡ gap a b
+unfolding delta
+delta-bits a b = residue-asSigned (gap a b) (gap-lt a b)
+
+-- a sum that wraps takes bits read as signed for the number that they are
+pub add-bits : (a : ℤ) (n : ℕ) → n < 2 ^ 64 → wrappingAdd a (asSigned n) ≡ wrappingAdd a (pos n)
+add-bits a n h = wrappingAdd-residue a (asSigned n) (pos n) (residue-asSigned n h ∙ sym (mod-eq-of-lt h))
 
 -- the number to which a adds up to b, modulo 2^64
 pub gap-is : (a b : ℤ) (n : ℕ) → n < 2 ^ 64 → (n + residue a) % 2 ^ 64 ≡ residue b → n ≡ gap a b

@@ -1,7 +1,8 @@
-// Keys and their 64 bits, sums and differences that wrap, ZigZag, and the width of a number: the Rust's casts, its
-// `wrapping_add` and `wrapping_sub`, the ZigZag of varint.rs and `required_width` of bitpack.rs.
+// Keys and their 64 bits, the lesser and the greater of two, sums and differences that wrap, ZigZag, and the width of a number:
+// the Rust's casts, its `min` and `max`, its `wrapping_add` and `wrapping_sub`, the ZigZag of varint.rs and `required_width` of bitpack.rs.
 ghost use mathlib.Core.Path.{_≡_};
 ghost use Rattle.format.specs.Keys.{residue, asSigned, wrappingAdd, delta, zigzag, unzigzag};
+ghost use Rattle.format.specs.Keys as Keys;
 ghost use Rattle.format.specs.Width.{width};
 
 // The 64 bits of v, in two's complement: the Rust's `v as u64`. A cast here must lose nothing, so a negative v is cast as
@@ -21,6 +22,20 @@ pub fn of_bits(b: u64) -> i64
     } else {
         !((!b) as i64)
     }
+}
+
+// The lesser of two keys.
+pub fn lesser(a: i64, b: i64) -> i64
+    ensures { λ r. ⌜ r ≡ Keys.lesser a b ⌝ }
+{
+    if b < a { b } else { a }
+}
+
+// The greater of two keys.
+pub fn greater(a: i64, b: i64) -> i64
+    ensures { λ r. ⌜ r ≡ Keys.greater a b ⌝ }
+{
+    if a < b { b } else { a }
 }
 
 // a + b modulo 2^64.

@@ -15,7 +15,7 @@ use Rattle.format.proofs.numbers.Packing.{packedLen-most}
 use Rattle.format.proofs.numbers.Widths.{width-le}
 use Rattle.codec.proofs.Blocks.{packed-counted}
 use Rattle.codec.proofs.Writing.{body-room, chunk-stored, write-many, write-short, write-done}
-use Rattle.bitpacked.proofs.Held.{held}
+use Rattle.number.proofs.Signed.{held}
 use Rattle.frame.proofs.Body.{body-length, body-is}
 use Rattle.frame.proofs.encode.Statement.{statement}
 use Rattle.frame.proofs.encode.Tie as tie

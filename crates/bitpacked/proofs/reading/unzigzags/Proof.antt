@@ -5,7 +5,7 @@ use native.Mathlib.Omega.{arith}
 use lib.ListN.{length}
 use borrow.Author.Needs.{needs}
 use Rattle.format.specs.Keys.{unzigzag}
-use Rattle.bitpacked.proofs.Held.{held}
+use Rattle.number.proofs.Signed.{held}
 use Rattle.bitpacked.proofs.Mapped.{Mapping, mapping-none, mapping-more, mapping-done}
 use Rattle.bitpacked.proofs.reading.unzigzags.Statement.{statement}
 use Rattle.bitpacked.proofs.reading.unzigzags.Tie as tie

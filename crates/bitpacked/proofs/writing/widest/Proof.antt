@@ -8,7 +8,7 @@ use lib.ListN.{length, getD, drop}
 use denote.Ref.{now}
 use borrow.Author.Needs.{needs}
 use Rattle.format.specs.Keys.{zigzag}
-use Rattle.bitpacked.proofs.Held.{held}
+use Rattle.number.proofs.Signed.{held}
 use Rattle.bitpacked.proofs.Mapped.{map-next, map-end}
 use Rattle.bitpacked.proofs.Widest.{Gathered, gathered-none, gathered-more, gathered-all}
 use Rattle.bitpacked.proofs.writing.widest.Statement.{statement}

@@ -11,7 +11,7 @@ use denote.Ref.{now}
 use borrow.Author.Needs.{needs}
 use Rattle.format.specs.Keys.{wrappingAdd}
 use Rattle.delta.specs.Summed.{fromLeast}
-use Rattle.delta.proofs.Held.{held, add-bits}
+use Rattle.number.proofs.Signed.{held, add-bits}
 use Rattle.delta.proofs.Sums.{Summing, summing-none, summing-one, summing-done, none-left}
 use Rattle.delta.proofs.filling.add_offsets.Statement.{statement}
 use Rattle.delta.proofs.filling.add_offsets.Tie as tie

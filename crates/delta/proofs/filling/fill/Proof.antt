@@ -7,7 +7,8 @@ use denote.Ref.{now}
 use borrow.Author.Needs.{needs}
 use Rattle.format.specs.Standalone.{varintAnswer}
 use Rattle.format.specs.declared.VarintAnswer.the-variants.{Read}
-use Rattle.delta.proofs.Held.{held, key-read}
+use Rattle.number.proofs.Signed.{held}
+use Rattle.delta.proofs.Held.{key-read}
 use Rattle.delta.proofs.Body.{first-there, size-there, blocks-there, values-stored, none-stored}
 use Rattle.delta.proofs.filling.fill.Statement.{statement}
 use Rattle.delta.proofs.filling.fill.Tie as tie

@@ -3,7 +3,8 @@ use mathlib.Core.Path.{sym, _∙_}
 use native.Mathlib.Omega.{arith}
 use denote.Ref.{now}
 use borrow.Author.Needs.{needs}
-use Rattle.delta.proofs.Held.{held, key-read}
+use Rattle.number.proofs.Signed.{held}
+use Rattle.delta.proofs.Held.{key-read}
 use Rattle.delta.proofs.Blocks.{Blocks, blocks-none, block-there, blocks-more, blocks-read, blocks-done}
 use Rattle.delta.proofs.filling.fill_blocks.Statement.{statement}
 use Rattle.delta.proofs.filling.fill_blocks.Tie as tie

@@ -9,7 +9,7 @@ use Rattle.format.specs.Varint.{varintLen}
 use Rattle.format.specs.Delta.{deltaBlockSize}
 use Rattle.format.proofs.numbers.Keys.{varintLen-le}
 use Rattle.format.proofs.numbers.Widths.{uvarintLen-le}
-use Rattle.delta.proofs.Held.{held}
+use Rattle.number.proofs.Signed.{held}
 use Rattle.delta.proofs.Measured.{body-empty, body-length, body-limit}
 use Rattle.delta.proofs.writing.body_len.Statement.{statement}
 use Rattle.delta.proofs.writing.body_len.Tie as tie

@@ -7,7 +7,7 @@ use mir.Val.{toZ}
 use denote.Ref.{now}
 use borrow.Author.Needs.{needs}
 use Rattle.format.specs.Keys.{lesser, greater}
-use Rattle.delta.proofs.Held.{held}
+use Rattle.number.proofs.Signed.{held}
 use Rattle.delta.proofs.Bounding.{Bounding, bounding-first, bounding-more, bounding-done}
 use Rattle.delta.proofs.writing.bounds_of.Statement.{statement}
 use Rattle.delta.proofs.writing.bounds_of.Tie as tie
@@ -27,8 +27,8 @@ loop-again c =
     let a = c .before .before .before .before .before .before .args in
     let d = c .before .before .delta-at2 in
     let by = held _ (d .ok) ∙ d .ensures in
-    let low = held _ (c .before .lesser-key .ok) ∙ c .before .lesser-key .ensures ∙ ap (lesser (toZ w64 (l .low))) by in
-    let high = held _ (c .greater-key .ok) ∙ c .greater-key .ensures ∙ ap (greater (toZ w64 (l .high))) by in
+    let low = held _ (c .before .lesser .ok) ∙ c .before .lesser .ensures ∙ ap (lesser (toZ w64 (l .low))) by in
+    let high = held _ (c .greater .ok) ∙ c .greater .ensures ∙ ap (greater (toZ w64 (l .high))) by in
     (rw (low, high) (bounding-more (now (a .window)) (l .i) (l .inv .0) (search needs)), search needs)
 
 returns : tie.Need-returns Inv-loop μ-loop

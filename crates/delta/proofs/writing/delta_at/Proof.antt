@@ -2,7 +2,7 @@
 use mathlib.Core.Path.{ap₂, _∙_}
 use borrow.Author.Needs.{needs}
 use Rattle.format.specs.Keys.{delta}
-use Rattle.delta.proofs.Held.{held}
+use Rattle.number.proofs.Signed.{held}
 use Rattle.delta.proofs.writing.delta_at.Statement.{statement}
 use Rattle.delta.proofs.writing.delta_at.Tie as tie
 

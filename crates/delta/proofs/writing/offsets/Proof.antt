@@ -10,7 +10,7 @@ use borrow.Author.Needs.{needs}
 use Rattle.format.specs.Keys.{residue, gap, delta}
 use Rattle.format.specs.Folds.{deltas}
 use Rattle.format.proofs.numbers.Stores.{Storing, storing-none, storing-done}
-use Rattle.delta.proofs.Held.{held, bits-delta}
+use Rattle.number.proofs.Signed.{held, delta-bits}
 use Rattle.delta.proofs.Bounding.{offset-more, offset-none}
 use Rattle.delta.proofs.writing.offsets.Statement.{statement}
 use Rattle.delta.proofs.writing.offsets.Tie as tie
@@ -31,7 +31,7 @@ loop-again c =
     let a = c .before .before .before .before .before .before .args in
     let d = c .before .before .delta-at in
     let o = c .before .wrapping-sub in
-    let v = c .bits-of .ensures ∙ ap residue (held _ (o .ok) ∙ o .ensures ∙ ap (delta (toZ w64 (ofZ w64 (a .low)))) (held _ (d .ok) ∙ d .ensures)) ∙ bits-delta _ _ in
+    let v = c .bits-of .ensures ∙ ap residue (held _ (o .ok) ∙ o .ensures ∙ ap (delta (toZ w64 (ofZ w64 (a .low)))) (held _ (d .ok) ∙ d .ensures)) ∙ delta-bits _ _ in
     (offset-more (now (a .window)) _ (l .i) (l .inv .0) (search needs) v, search needs)
 
 returns : tie.Need-returns Inv-loop μ-loop

@@ -3,8 +3,7 @@ use mathlib.Core.Path.{ap₂, _∙_}
 use mir.Facts.{toZ-ofZ}
 use borrow.Author.Needs.{needs}
 use Rattle.format.specs.Keys.{wrappingAdd}
-use Rattle.bitpacked.proofs.Held.{held}
-use Rattle.frame.proofs.Differences.{add-bits}
+use Rattle.number.proofs.Signed.{held, add-bits}
 use Rattle.frame.proofs.reading.above.Statement.{statement}
 use Rattle.frame.proofs.reading.above.Tie as tie
 

@@ -15,7 +15,7 @@ use Rattle.format.specs.Keys.{asSigned, wrappingAdd, keyAt}
 use Rattle.format.specs.Frame.{frameValues}
 use Rattle.format.proofs.numbers.All.{Below, all-by}
 use Rattle.codec.proofs.Blocks.{packed-counted}
-use Rattle.bitpacked.proofs.Held.{held}
+use Rattle.number.proofs.Signed.{held}
 use Rattle.bitpacked.proofs.Filling.{Filling, filling-none, filling-more, filling-room, filling-done}
 use Rattle.frame.proofs.Differences.{key-loaded}
 use Rattle.frame.proofs.reading.fill.Statement.{statement}

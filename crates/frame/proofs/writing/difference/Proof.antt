@@ -3,8 +3,7 @@ use mathlib.Core.Path.{ap, ap₂, _∙_}
 use mir.Facts.{toZ-ofZ}
 use borrow.Author.Needs.{needs}
 use Rattle.format.specs.Keys.{residue, delta}
-use Rattle.bitpacked.proofs.Held.{held}
-use Rattle.frame.proofs.Differences.{delta-bits}
+use Rattle.number.proofs.Signed.{held, delta-bits}
 use Rattle.frame.proofs.writing.difference.Statement.{statement}
 use Rattle.frame.proofs.writing.difference.Tie as tie
 

@@ -10,7 +10,7 @@ use denote.Ref.{now}
 use borrow.Author.Needs.{needs}
 use Rattle.format.specs.Keys.{lesser, greater}
 use Rattle.format.specs.Width.{width}
-use Rattle.bitpacked.proofs.Held.{held}
+use Rattle.number.proofs.Signed.{held}
 use Rattle.frame.proofs.Bounds.{Bounded, fitted-none, bounded-one, bounded-more, bounded-least, bounded-width}
 use Rattle.frame.proofs.writing.fit_of.Statement.{statement}
 use Rattle.frame.proofs.writing.fit_of.Tie as tie
@@ -32,8 +32,8 @@ loop-again c =
     let given = c .before .before .value .given in
     let v = held (getD (now (c .before .before .before .before .before .before .before .args .column)) (l .i) (pos 0)) given in
     bounded-more (l .inv) (omega arith) given
-    (held (c .before .lesser-of .result) (c .before .lesser-of .ok) ∙ c .before .lesser-of .ensures ∙ ap (lesser _) v)
-    (held (c .greater-of .result) (c .greater-of .ok) ∙ c .greater-of .ensures ∙ ap (greater _) v)
+    (held (c .before .lesser .result) (c .before .lesser .ok) ∙ c .before .lesser .ensures ∙ ap (lesser _) v)
+    (held (c .greater .result) (c .greater .ok) ∙ c .greater .ensures ∙ ap (greater _) v)
 
 returns-2 : tie.Need-returns-2 Inv-loop μ-loop
 returns-2 c =
