@@ -6,7 +6,7 @@ ghost use lib.ListN.{length};
 ghost use lib.Seq.{sets};
 ghost use Rattle.format.specs.Keys.{unzigzag};
 ghost use Rattle.format.specs.BitPacked.{bitPackedValues};
-ghost use Rattle.bitpacked.specs.Body.{Inside};
+ghost use Rattle.codec.specs.Packed.{Inside};
 use codec::block::block_len;
 use codec::block::packed_bytes;
 

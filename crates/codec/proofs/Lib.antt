@@ -6,3 +6,6 @@ pub mod Rows
 pub mod Headers
 pub mod Writing
 pub mod Reading
+pub mod Mapped
+pub mod Packing
+pub mod Filling

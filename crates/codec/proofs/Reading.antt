@@ -8,6 +8,7 @@ use native.Mathlib.Omega.{arith}
 use lib.IntN.{ℤ}
 use lib.Dec.{leb, eqb}
 use lib.ListN.{length, getD}
+use lib.Seq.{sets}
 use borrow.Author.Tests.{leb-true, eqb-true}
 use Rattle.format.specs.Outcome.{Outcome, refused, ok, check, _>>=_}
 use Rattle.format.specs.Varint.{Extent, UvarintRead, readUvarint, firstPadded}
@@ -25,8 +26,10 @@ use Rattle.format.specs.declared.HeaderAnswer.{HeaderAnswer}
 use Rattle.format.specs.declared.HeaderAnswer.the-variants.{Found, Malformed}
 use Rattle.format.specs.declared.Padded.{Padded}
 use Rattle.format.specs.declared.Padded.the-variants.{Nowhere}
+use Rattle.format.proofs.codecs.Counts.{body-count}
 use Rattle.format.proofs.codecs.Encodings.{encodingOf-id}
 use Rattle.format.proofs.codecs.Outcome.{both-passed, check-passed}
+use Rattle.format.proofs.numbers.Stores.{sets-stored}
 use Rattle.varint.proofs.Answers.{read-range}
 use Rattle.codec.specs.Refusals.{outcomeOf, refusalOfHeader}
 
@@ -221,3 +224,14 @@ module _ (e : Encoding) (strict : Bool) (s : List ℕ) (column : List ℤ) where
 
           pub read-valid : (x : Extent) × (validateBody e s start count padded ≡ ok x)
           read-valid = settled-accepted strict s count (length column) (validateBody e s start count padded) (sym asked ∙ r) .2
+
+-- ---- what is filled
+
+-- a body that was passed has as many values as are counted, so that they fill the column's front
+pub body-filled : (e : Encoding) (s : List ℕ) (start count : ℕ) (padded : Padded) {x : Extent} (column : List ℤ) {m : ℕ} {out : List ℤ}
+    → validateBody e s start count padded ≡ ok x → count ≤ length column → m ≡ count → out ≡ sets column 0 (bodyValues e s start m)
+    → out ≡ stored (bodyValues e s start count) column
+body-filled e s start count padded column valid room same filled =
+    filled
+    ∙ ap (λ (n : ℕ). sets column 0 (bodyValues e s start n)) same
+    ∙ sets-stored (bodyValues e s start count) column (omega (arith, room, body-count e s start count padded valid))

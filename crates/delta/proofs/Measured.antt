@@ -3,12 +3,11 @@
 use mathlib.Core.Path.{_≡_, refl, sym, ap, ap₂, _∙_}
 use mathlib.Core.List.{List, [], _∷_, _++_}
 use Prim.Native.Nat.{ℕ, zero, suc, _+_, _-_, _*_, _≤_, _<_, min}
-use native.Mathlib.Decide.{decLe}
 use native.Mathlib.Omega.{arith}
 use lib.Dec.{lit≤}
 use lib.IntN.{ℤ, pos}
-use lib.ListN.{length, getD, take, drop, length-append, length-take, length-drop, drop-of-length-le}
-use lib.Seq.{take-all, drop-drop}
+use lib.ListN.{length, getD, take, drop, length-append, length-take, length-drop}
+use lib.Seq.{drop-drop}
 use Rattle.format.specs.Keys.{gap}
 use Rattle.format.specs.Varint.{uvarintLen, varintLen, uvarintBytes, varintBytes}
 use Rattle.format.specs.Width.{width}
@@ -21,6 +20,7 @@ use Rattle.format.proofs.numbers.Uvarints.{length-uvarintBytes}
 use Rattle.format.proofs.numbers.Widths.{width-le, uvarintLen-le}
 use Rattle.format.proofs.numbers.Packing.{packedLen-most}
 use Rattle.format.proofs.lengths.DeltaLength.{blockLen, blocksLen, length-block, length-blocks}
+use Rattle.codec.proofs.Packing.{cut}
 use Rattle.delta.specs.Written.{blocksOf}
 use Rattle.delta.proofs.There.{blockCount-more, blockCount-none}
 use Rattle.delta.proofs.Windows.{length-deltas, window-deltas}
@@ -32,28 +32,13 @@ module _ (ds : List ℤ) where
   unfolding blocksOf blocksBytes
   blocks-empty e = ap (λ (k : ℕ). blocksBytes k ds) (blockCount-none 128 (length ds) (lit≤ tt) e)
 
-  -- 128 deltas, or all that there are
-  front : (n : ℕ) → n ≡ min (length ds) 128 → take 128 ds ≡ take n ds
-  front n e = go (decLe 128 (length ds))
-    where
-      go : Dec (128 ≤ length ds) → take 128 ds ≡ take n ds
-      go (yes h) = let k : 128 ≡ n = omega arith in ap (λ (m : ℕ). take m ds) k
-      go (no h) = take-all 128 ds (omega arith) ∙ sym (take-all n ds (omega arith))
-
-  after : (n : ℕ) → n ≡ min (length ds) 128 → drop 128 ds ≡ drop n ds
-  after n e = go (decLe 128 (length ds))
-    where
-      go : Dec (128 ≤ length ds) → drop 128 ds ≡ drop n ds
-      go (yes h) = let k : 128 ≡ n = omega arith in ap (λ (m : ℕ). drop m ds) k
-      go (no h) = drop-of-length-le ds {i = 128} (omega arith) ∙ sym (drop-of-length-le ds {i = n} (omega arith))
-
   pub blocks-next : (n : ℕ) → 1 ≤ length ds → n ≡ min (length ds) 128 → blocksOf ds ≡ blockBytes (take n ds) ++ blocksOf (drop n ds)
   unfolding blocksOf blocksBytes
   blocks-next n some e =
       let k : blockCount 128 (length ds) ≡ suc (blockCount 128 (length (drop n ds))) =
       blockCount-more 128 (length ds) (lit≤ tt) some ∙ ap (λ (m : ℕ). suc (blockCount 128 m)) (ap (λ (m : ℕ). length ds - m) (sym e) ∙ sym (length-drop n ds)) in
       ap (λ (m : ℕ). blocksBytes m ds) k
-      ∙ ap₂ (λ (a b : List ℤ). blockBytes a ++ blocksBytes (blockCount 128 (length (drop n ds))) b) (front n e) (after n e)
+      ∙ ap₂ (λ (a b : List ℤ). blockBytes a ++ blocksBytes (blockCount 128 (length (drop n ds))) b) (cut ds e .0) (cut ds e .1)
 
 -- Of a walk along the column: the deltas from i on are still to come, and the next n of them are those of a window.
 pub next-window : (column : List ℤ) (i n : ℕ) → i + 1 < length column → n ≡ min (length column - 1 - i) 128

@@ -27,8 +27,8 @@ use Rattle.format.proofs.numbers.Keys.{length-keyBytes}
 use Rattle.format.proofs.numbers.Stores.{sets-append}
 use Rattle.codec.specs.Places.{fitting, laid, laidEnd}
 use Rattle.codec.proofs.Placing.{bytes-laid}
-use Rattle.bitpacked.specs.Body.{Inside}
-use Rattle.bitpacked.proofs.Body.{passed-inside}
+use Rattle.codec.specs.Packed.{Inside}
+use Rattle.codec.proofs.Settling.{passed-inside}
 use Rattle.frame.specs.declared.writing.Fit.{Fit}
 use Rattle.frame.specs.Fit.{Fitted}
 

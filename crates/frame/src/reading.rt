@@ -10,7 +10,7 @@ ghost use Rattle.format.specs.Keys.{wrappingAdd};
 ghost use Rattle.format.specs.Frame.{validateFrame, frameValues};
 ghost use Rattle.format.specs.Parts.{extentAnswerOf};
 ghost use Rattle.format.proofs.numbers.Words.{sum8};
-ghost use Rattle.bitpacked.specs.Body.{Inside};
+ghost use Rattle.codec.specs.Packed.{Inside};
 use codec::block::block_len;
 use codec::block::packed_bytes;
 use codec::body::settle_packed;

@@ -12,8 +12,8 @@ use Rattle.format.specs.Parts.{extentAnswerOf}
 use Rattle.format.specs.declared.Encoding.the-variants.{BitPacked}
 use Rattle.format.specs.declared.HeaderAnswer.the-variants.{Found}
 use Rattle.format.specs.declared.Padded.{Padded}
-use Rattle.codec.proofs.Reading.{read-malformed, read-few, read-answer, read-untouched, read-filled, read-count, read-room, read-valid}
-use Rattle.bitpacked.proofs.Body.{extent-asked, body-inside, body-filled}
+use Rattle.codec.proofs.Reading.{read-malformed, read-few, read-answer, read-untouched, read-filled, read-count, read-room, read-valid, body-filled}
+use Rattle.bitpacked.proofs.Body.{extent-asked, body-inside}
 use Rattle.bitpacked.proofs.decode.Statement.{statement}
 use Rattle.bitpacked.proofs.decode.Tie as tie
 

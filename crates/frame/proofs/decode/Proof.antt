@@ -12,8 +12,7 @@ use Rattle.format.specs.Parts.{extentAnswerOf}
 use Rattle.format.specs.declared.Encoding.the-variants.{FrameOfReference}
 use Rattle.format.specs.declared.HeaderAnswer.the-variants.{Found}
 use Rattle.format.specs.declared.Padded.{Padded}
-use Rattle.codec.proofs.Reading.{read-malformed, read-few, read-start, read-answer, read-untouched, read-filled, read-count, read-room, read-valid}
-use Rattle.bitpacked.proofs.Body.{body-filled}
+use Rattle.codec.proofs.Reading.{read-malformed, read-few, read-start, read-answer, read-untouched, read-filled, read-count, read-room, read-valid, body-filled}
 use Rattle.frame.proofs.Body.{body-inside}
 use Rattle.frame.proofs.decode.Statement.{statement}
 use Rattle.frame.proofs.decode.Tie as tie

@@ -11,7 +11,7 @@ use Rattle.format.specs.Keys.{unzigzag}
 use Rattle.format.specs.BitPacked.{bitPackedValues}
 use Rattle.format.proofs.numbers.All.{Below, all-by}
 use Rattle.codec.proofs.Blocks.{packed-counted}
-use Rattle.bitpacked.proofs.Filling.{Filling, filling-none, filling-more, filling-room, filling-done}
+use Rattle.codec.proofs.Filling.{Filling, filling-none, filling-more, filling-room, filling-done}
 use Rattle.bitpacked.proofs.reading.fill.Statement.{statement}
 use Rattle.bitpacked.proofs.reading.fill.Tie as tie
 

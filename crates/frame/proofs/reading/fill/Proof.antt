@@ -16,7 +16,7 @@ use Rattle.format.specs.Frame.{frameValues}
 use Rattle.format.proofs.numbers.All.{Below, all-by}
 use Rattle.codec.proofs.Blocks.{packed-counted}
 use Rattle.number.proofs.Signed.{held}
-use Rattle.bitpacked.proofs.Filling.{Filling, filling-none, filling-more, filling-room, filling-done}
+use Rattle.codec.proofs.Filling.{Filling, filling-none, filling-more, filling-room, filling-done}
 use Rattle.frame.proofs.Differences.{key-loaded}
 use Rattle.frame.proofs.reading.fill.Statement.{statement}
 use Rattle.frame.proofs.reading.fill.Tie as tie

@@ -32,9 +32,9 @@ module _ {A B : Type 0} (f : A → B) where
   drop-map (suc n) [] = refl
   drop-map (suc n) (x ∷ l) = drop-map n l
 
--- no more than there are
+-- 128, or all that there are
 module _ (l : List ℤ) {n : ℕ} (e : n ≡ min (length l) 128) where
-  cut : (take 128 l ≡ take n l) × (drop 128 l ≡ drop n l)
+  pub cut : (take 128 l ≡ take n l) × (drop 128 l ≡ drop n l)
   cut = go (decLe 128 (length l))
     where
       go : Dec (128 ≤ length l) → (take 128 l ≡ take n l) × (drop 128 l ≡ drop n l)
