@@ -5,18 +5,18 @@ use Prim.Native.Nat.{ℕ, zero, suc, _+_, _-_, _≤_, min, zero-le}
 use native.Mathlib.Decide.{decLe}
 use native.Mathlib.Omega.{arith}
 use lib.IntN.{ℤ}
-use lib.ListN.{length, take, drop, length-map, length-drop, length-append, drop-of-length-le}
+use lib.ListN.{length, take, drop, length-map, length-drop, drop-of-length-le}
 use lib.Seq.{sets, take-at, take-all, take-length, drop-length, drop-drop, length-take-le}
-use Rattle.format.specs.Outcome.{Outcome, ok}
 use Rattle.format.specs.Answers.{stored}
+use Rattle.format.specs.Encodings.{maxChunkElements}
 use Rattle.format.specs.Packing.{packedLen, packed}
 use Rattle.format.specs.Standalone.{packOutcome}
 use Rattle.format.proofs.numbers.Packing.{packedLen-zero, length-packed}
-use Rattle.format.proofs.numbers.Stores.{sets-stored, Storing, storing-none, storing-part, storing-room, storing-done}
+use Rattle.format.proofs.numbers.Stores.{sets-stored, Storing, storing-none, storing-done}
 use Rattle.bitpack.proofs.Blocks.{packed-block}
 use Rattle.bitpack.proofs.PackingLaws.{packed-none}
 use Rattle.codec.specs.Places.{laid, laidEnd}
-use Rattle.codec.proofs.Placing.{packed-laid}
+use Rattle.codec.proofs.Placing.{storing-packed}
 
 -- ---- a block
 
@@ -46,9 +46,9 @@ module _ (l : List ℤ) {n : ℕ} (e : n ≡ min (length l) 128) where
           )
 
 -- what was stored at the front of a block
-block-front : (vs block : List ℕ) {n : ℕ} → length vs ≡ n → n ≤ length block → take n (sets block 0 vs) ≡ vs
+pub front-stored : (whole l : List ℕ) (n : ℕ) {out : List ℕ} → out ≡ sets l 0 whole → length whole ≡ n → n ≤ length l → take n out ≡ whole
 unfolding stored
-block-front vs block {n} e h = ap (take n) (sets-stored vs block (omega (arith, e))) ∙ take-at vs (drop (length vs) block) n e
+front-stored whole l n e many h = ap (take n) (e ∙ sets-stored whole l (omega (arith, many))) ∙ take-at whole (drop (length whole) l) n many
 
 -- ---- the loop
 
@@ -76,36 +76,21 @@ module _ (f : ℤ → ℕ) (w : ℕ) (column : List ℤ) where
           ∙ ap₂ (λ (a b : List ℕ). packed w a ++ packed w b) (take-map f 128 (drop i column) ∙ ap (map f) (c .0))
           (drop-map f 128 (drop i column) ∙ ap (map f) (c .1 ∙ drop-drop n i column))
 
-      -- a block has room where the whole had
-      placing-room : from + packedLen (length column) w ≤ length l → at + packedLen n w ≤ length out
-      placing-room h =
-          let bytes : (vs : List ℤ) → length (packed w (map f vs)) ≡ packedLen (length vs) w
-          = λ vs. length-packed w (map f vs) ∙ ap (λ (k : ℕ). packedLen k w) (length-map vs f) in
-          let here : length (packed w (map f part)) ≡ packedLen n w = bytes part ∙ ap (λ (k : ℕ). packedLen k w) part-length in
-          let left = storing-room (g .storing) (omega (arith, bytes column)) in
-          omega (arith, left, here, ap length both, length-append (packed w (map f part)) (packed w (map f (drop (i + n) column))))
-
-      -- a block more
-      placing-more : {next : List ℕ} {end : ℕ} → next ≡ sets out at (packed w (map f part)) → end ≡ at + length (packed w (map f part)) → Placing l from next end (i + n)
-      placing-more en ee =
-          record { passed = omega arith; storing = rw (en, ee) (storing-part (g .storing) (packed w (map f part)) (packed w (map f (drop (i + n) column))) both) }
-
       -- as it stands at the front of `back`, and is put in the output
       pub placing-block : (block : List ℕ) {back : List ℕ} → length block ≡ 128 → back ≡ sets block 0 (map f (take (i + n - i) (drop i column)))
           → take n back ≡ map f part
       placing-block block hb eb =
           let m : i + n - i ≡ n = omega arith in
-          ap (take n) (eb ∙ ap (λ (k : ℕ). sets block 0 (map f (take k (drop i column)))) m)
-          ∙ block-front (map f part) block (length-map part f ∙ part-length) (omega (arith, hb, e))
+          front-stored (map f part) block n (eb ∙ ap (λ (k : ℕ). sets block 0 (map f (take k (drop i column)))) m) (length-map part f ∙ part-length) (omega (arith, hb, e))
 
       pub placing-put : {values : List ℕ} {next : List ℕ} {end : ℕ} → w ≤ 64 → from + packedLen (length column) w ≤ length l → values ≡ map f part
           → end ≡ laidEnd (packOutcome values w (length out - at)) at → next ≡ laid (packOutcome values w (length out - at)) at out → Placing l from next end (i + n)
-      placing-put hw h ev ee en =
-          let long : length (map f part) ≡ n = length-map part f ∙ part-length in
-          let put : packOutcome (map f part) w (length out - at) ≡ ok (packed w (map f part))
-          = packed-laid at out (map f part) w (omega (arith, long, e)) hw (rw long (placing-room h)) in
-          let whole = ap (λ (vs : List ℕ). packOutcome vs w (length out - at)) ev ∙ put in
-          placing-more (en ∙ ap (λ (o : Outcome (List ℕ)). laid o at out) whole) (ee ∙ ap (λ (o : Outcome (List ℕ)). laidEnd o at) whole)
+      placing-put {values} hw h ev ee en =
+          let later : List ℕ = packed w (map f (drop (i + n) column)) in
+          let long : length (packed w (map f column)) ≡ packedLen (length column) w = length-packed w (map f column) ∙ ap (λ (k : ℕ). packedLen k w) (length-map column f) in
+          let few : length values ≤ maxChunkElements = omega (arith, ap length ev, length-map part f, part-length, e) in
+          let next : packed w (map f (drop i column)) ≡ packed w values ++ later = both ∙ ap (λ (vs : List ℕ). packed w vs ++ later) (sym ev) in
+          record { passed = omega arith; storing = storing-packed (g .storing) (omega (arith, h, long)) values w later next few hw (ee, en) }
 
     pub placing-done : {out : List ℕ} {at i : ℕ} → Placing l from out at i → length column ≤ i → out ≡ sets l from (packed w (map f column))
     placing-done g h =

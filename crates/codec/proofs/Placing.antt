@@ -1,5 +1,6 @@
 -- Storing at a place: what a call left in the part of the output from a place on, seen from the whole (`placed`); and where there is room, the bytes stand there
--- (`uvarint-laid`, `packed-laid`, `bytes-laid`), which is what a codec has from the calls of `place`.
+-- (`uvarint-laid`, `packed-laid`, `bytes-laid`), which is what a codec has from the calls of `place`; so a codec that stores part by part goes on after them
+-- (`storing-uvarint`, `storing-packed`).
 use mathlib.Core.Path.{_≡_, refl, sym, ap, _∙_}
 use mathlib.Core.Bool.{Bool, true, false}
 use mathlib.Core.List.{List, [], _∷_, _++_, append-assoc}
@@ -9,7 +10,7 @@ use native.Mathlib.Numerals.{add-one}
 use native.Mathlib.Omega.{arith}
 use lib.IntN.{ℤ}
 use lib.Dec.{leb}
-use lib.ListN.{length, set, take, drop, take-append-drop, length-set}
+use lib.ListN.{length, set, take, drop, take-append-drop, length-append, length-set}
 use lib.Seq.{sets, length-sets, sets-eq, drop-drop}
 use borrow.Rule.Slice.PartMut.{putMid}
 use borrow.Author.Tests.{le-leb, lt-leb, leb-true}
@@ -26,6 +27,7 @@ use Rattle.format.specs.declared.Answer.the-variants.{Accepted, Refused}
 use Rattle.format.proofs.numbers.Keys.{length-keyBytes}
 use Rattle.format.proofs.numbers.Uvarints.{length-uvarintBytes}
 use Rattle.format.proofs.numbers.Packing.{length-packed}
+use Rattle.format.proofs.numbers.Stores.{Storing, storing-part, storing-room}
 use Rattle.format.proofs.codecs.Header.{length-headerBytes}
 use Rattle.varint.proofs.Bytes.{uvarintLen-one, uvarintLen-more, uvarintBytes-one, uvarintBytes-more}
 use Rattle.bitpack.proofs.Parts.{part-back}
@@ -106,6 +108,10 @@ packed-fits values w space = go (leb (length values) maxChunkElements) (leb w 64
 
 -- ---- where there is room
 
+-- what a call that stores a varint at a place says of the output and of the place after it
+abbrev pub PutUvarint : ℕ → List ℕ → ℕ → List ℕ → ℕ → Type 0
+PutUvarint x output at out end = (end ≡ laidEnd (uvarintWriteOutcome x (length output - at)) at) × (out ≡ laid (uvarintWriteOutcome x (length output - at)) at output)
+
 module _ (at : ℕ) (output : List ℕ) where
   pub uvarint-laid : (x : ℕ) → at + uvarintLen x ≤ length output → uvarintWriteOutcome x (length output - at) ≡ ok (uvarintBytes x)
   unfolding uvarintWriteOutcome
@@ -120,6 +126,24 @@ module _ (at : ℕ) (output : List ℕ) where
   unfolding packOutcome
   packed-laid values w few narrow h =
       rw (le-leb (length values) maxChunkElements few, le-leb w 64 narrow, le-leb (packedLen (length values) w) (length output - at) (omega arith))
+
+-- ---- where there is room for all, a call's bytes are stored, and the rest is to come after them
+
+module _ {whole l : List ℕ} {from : ℕ} {rest out : List ℕ} {at : ℕ} (s : Storing whole l from rest out at) (room : from + length whole ≤ length l) where
+  laid-more : (o : Outcome (List ℕ)) (bytes later : List ℕ) {end : ℕ} {next : List ℕ} → rest ≡ bytes ++ later → o ≡ ok bytes
+      → (end ≡ laidEnd o at) × (next ≡ laid o at out) → Storing whole l from later next end
+  laid-more o bytes later e there put = let told = rw there at put in rw (told .0, told .1) (storing-part s bytes later e)
+
+  pub storing-uvarint : (x : ℕ) (later : List ℕ) {end : ℕ} {next : List ℕ} → rest ≡ uvarintBytes x ++ later → PutUvarint x out at next end → Storing whole l from later next end
+  storing-uvarint x later e put =
+      let fits : at + uvarintLen x ≤ length out = omega (arith, storing-room s room, ap length e, length-append (uvarintBytes x) later, length-uvarintBytes x) in
+      laid-more (uvarintWriteOutcome x (length out - at)) (uvarintBytes x) later e (uvarint-laid at out x fits) put
+
+  pub storing-packed : (values : List ℕ) (w : ℕ) (later : List ℕ) {end : ℕ} {next : List ℕ} → rest ≡ packed w values ++ later → length values ≤ maxChunkElements → w ≤ 64
+      → (end ≡ laidEnd (packOutcome values w (length out - at)) at) × (next ≡ laid (packOutcome values w (length out - at)) at out) → Storing whole l from later next end
+  storing-packed values w later e few narrow put =
+      let fits : at + packedLen (length values) w ≤ length out = omega (arith, storing-room s room, ap length e, length-append (packed w values) later, length-packed w values) in
+      laid-more (packOutcome values w (length out - at)) (packed w values) later e (packed-laid at out values w few narrow fits) put
 
 -- ---- a varint of one or two bytes
 

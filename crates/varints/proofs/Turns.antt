@@ -1,20 +1,17 @@
 -- A turn of each loop: the varint of a value is measured or stored. What is left shrinks by just that.
 use mathlib.Core.Path.{_≡_, ap, _∙_}
 use mathlib.Core.List.{List, [], _++_}
-use Prim.Native.Nat.{ℕ, _+_, _-_, _≤_, _<_}
+use Prim.Native.Nat.{ℕ, _+_, _≤_, _<_}
 use native.Mathlib.Numerals.{add-one}
-use native.Mathlib.Omega.{arith}
 use lib.IntN.{ℤ, pos}
 use lib.ListN.{length, getD, drop, drop-of-length-le, length-append}
 use lib.Seq.{drop-cons}
 use Rattle.format.specs.Keys.{zigzag}
-use Rattle.format.specs.Varint.{uvarintLen, uvarintBytes, varintLen, varintBytes}
+use Rattle.format.specs.Varint.{varintLen, varintBytes}
 use Rattle.format.specs.VarintBody.{varintBody}
-use Rattle.format.specs.Standalone.{uvarintWriteOutcome}
 use Rattle.format.proofs.numbers.Keys.{length-varintBytes}
-use Rattle.format.proofs.numbers.Stores.{Storing, storing-part, storing-room}
-use Rattle.codec.specs.Places.{laid, laidEnd}
-use Rattle.codec.proofs.Placing.{uvarint-laid}
+use Rattle.format.proofs.numbers.Stores.{Storing}
+use Rattle.codec.proofs.Placing.{PutUvarint, storing-uvarint}
 
 -- ---- a column, value by value
 
@@ -32,14 +29,6 @@ module _ (column : List ℤ) (i : ℕ) where
 
   -- where there is room for all, a varint more is stored
   pub store-more : {whole l out : List ℕ} {from at next : ℕ} {new : List ℕ} → Storing whole l from (varintBody (drop i column)) out at → i < length column
-      → from + length whole ≤ length l
-      → next ≡ laidEnd (uvarintWriteOutcome (zigzag (getD column i (pos 0))) (length out - at)) at
-      → new ≡ laid (uvarintWriteOutcome (zigzag (getD column i (pos 0))) (length out - at)) at out
-      → Storing whole l from (varintBody (drop (i + 1) column)) new next
-  unfolding varintBytes varintLen
-  store-more {whole} {l} {out} {from} {at} {next} s h room e stored =
-      let v = getD column i (pos 0) in
-      let left = storing-room s room in
-      let fits : at + uvarintLen (zigzag v) ≤ length out = omega (arith, left, length-more h) in
-      let put = uvarint-laid at out (zigzag v) fits in
-      rw (stored, e, put) (storing-part s (uvarintBytes (zigzag v)) (varintBody (drop (i + 1) column)) (body-more h))
+      → from + length whole ≤ length l → PutUvarint (zigzag (getD column i (pos 0))) out at new next → Storing whole l from (varintBody (drop (i + 1) column)) new next
+  unfolding varintBytes
+  store-more s h room put = storing-uvarint s room (zigzag (getD column i (pos 0))) (varintBody (drop (i + 1) column)) (body-more h) put

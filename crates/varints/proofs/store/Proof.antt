@@ -22,7 +22,7 @@ loop-again c =
     let l = c .before .before .before .before .before .before .loop in
     let start = c .before .before .before .before .before .before .before .before in
     let put = rw (toZ-ofZ {w = w64} (record { sfits = c .before .before .before .before .put-varint-arg .given })) at (c .before .before .put-varint .ensures) in
-    (omega arith, store-more (start .args .column .now) (l .i) (l .inv .1) (omega arith) (start .pre) (put .0) (put .1))
+    (omega arith, store-more (start .args .column .now) (l .i) (l .inv .1) (omega arith) (start .pre) put)
 
 returns : tie.Need-returns Inv-loop μ-loop
 returns c =

@@ -11,10 +11,10 @@ use Rattle.format.specs.Varint.{varintBytes}
 use Rattle.format.specs.Folds.{deltas}
 use Rattle.format.specs.Delta.{deltaBlockSize, deltaBody}
 use Rattle.format.proofs.numbers.Stores.{Storing, storing-none, storing-room}
-use Rattle.delta.specs.Written.{blocksOf}
 use Rattle.number.proofs.Signed.{held}
+use Rattle.codec.proofs.Placing.{storing-uvarint}
+use Rattle.delta.specs.Written.{blocksOf}
 use Rattle.delta.proofs.Measured.{body-empty, body-parts}
-use Rattle.delta.proofs.Placed.{varint-placed}
 use Rattle.delta.proofs.writing.store.Statement.{statement}
 use Rattle.delta.proofs.writing.store.Tie as tie
 
@@ -37,8 +37,8 @@ begun c =
     let column = now (s .args .column) in
     let v = c .before .before .before .before in
     let told = rw (held (getD column 0 (pos 0)) (v .before .before .put-varint-arg .given)) at (v .put-varint .ensures) in
-    let first = varint-placed (s .args .at) storing-none (s .pre) (zigzag (getD column 0 (pos 0))) _ (body-parts column (omega arith)) (told .0) (told .1) in
-    varint-placed (v .put-varint .result) first (s .pre) deltaBlockSize (blocksOf (deltas column)) refl (c .put-uvarint .ensures .0) (c .put-uvarint .ensures .1)
+    let first = storing-uvarint storing-none (s .pre) (zigzag (getD column 0 (pos 0))) _ (body-parts column (omega arith)) told in
+    storing-uvarint first (s .pre) deltaBlockSize (blocksOf (deltas column)) refl (c .put-uvarint .ensures)
 
 store-blocks-requires : tie.Need-store-blocks-requires
 store-blocks-requires c κs = let u = c .before .before .before in storing-room (begun u) (start u .pre)

@@ -7,7 +7,6 @@ use lib.ListN.{length, take, set, length-map}
 use lib.Seq.{length-take-le}
 use denote.Ref.{now}
 use borrow.Author.Needs.{needs}
-use borrow.Author.Needs.{needs}
 use Rattle.format.specs.Keys.{gap, zigzag}
 use Rattle.format.specs.Packing.{packed}
 use Rattle.format.specs.Encodings.{maxChunkElements}
@@ -15,8 +14,10 @@ use Rattle.format.specs.Folds.{least, greatest, deltas}
 use Rattle.format.specs.Delta.{blockBytes}
 use Rattle.format.proofs.numbers.Stores.{Storing, storing-none, storing-one, storing-done, storing-end, storing-room}
 use Rattle.format.proofs.numbers.Widths.{width-le}
+use Rattle.codec.proofs.Packing.{front-stored}
+use Rattle.codec.proofs.Placing.{storing-uvarint, storing-packed}
 use Rattle.delta.proofs.Held.{low-held, span-held}
-use Rattle.delta.proofs.Placed.{front-stored, varint-placed, packed-placed, blockOffsets, blockWidth, block-is}
+use Rattle.delta.proofs.Placed.{blockOffsets, blockWidth, block-is}
 use Rattle.delta.proofs.Windows.{length-deltas}
 use Rattle.delta.proofs.writing.store_block.Statement.{statement}
 use Rattle.delta.proofs.writing.store_block.Tie as tie
@@ -42,7 +43,7 @@ begun c =
     let window = now (s .args .window) in
     let b = c .before .before .before .before .before .before .before .before .bounds-of .ensures in
     let told = rw (low-held window (b .0) (b .1)) at (c .put-varint .ensures) in
-    varint-placed (s .args .at) storing-none (s .pre .1) (zigzag (least (deltas window))) _ (block-is window) (told .0) (told .1)
+    storing-uvarint storing-none (s .pre .1) (zigzag (least (deltas window))) _ (block-is window) told
 
 -- the width byte is stored, and the packed offsets are next
 widened : (c : tie.After-put-varint)
@@ -94,8 +95,8 @@ ended c =
     let same = offsets-are (v .before .before .before) in
     let next = ap₂ packed (sym wide) (sym same) ∙ sym (append-nil (packed _ values)) in
     let few : length values ≤ maxChunkElements = omega (arith, ap length same, length-map ds (gap (least ds)), length-deltas window) in
-    packed-placed (v .put-varint .result + 1) (widened v) (start v .pre .1) values _ [] next few (omega (arith, wide, width-le (gap (least ds) (greatest ds))))
-    (c .put-packed .ensures .0) (c .put-packed .ensures .1)
+    storing-packed (widened v) (start v .pre .1) values _ [] next few (omega (arith, wide, width-le (gap (least ds) (greatest ds))))
+    (c .put-packed .ensures)
 
 same-length : tie.Need-same-length
 same-length c = ended (c .before .before) .long
