@@ -9,3 +9,4 @@ pub mod Reading
 pub mod Mapped
 pub mod Packing
 pub mod Filling
+pub mod Keys

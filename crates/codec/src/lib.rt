@@ -9,6 +9,7 @@ use format::EncodingAnswer;
 pub mod block;
 pub mod body;
 pub mod header;
+pub mod load;
 pub mod place;
 
 // The id that a chunk's first byte is.

@@ -1,7 +1,7 @@
 // A body's questions, its least value, and the keys that lie above it.
 ghost use mathlib.Core.Path.{_≡_};
 ghost use mathlib.Core.List.{map};
-ghost use Prim.Native.Nat.{_+_, _<_, _≤_};
+ghost use Prim.Native.Nat.{_+_, _≤_};
 ghost use lib.IntN.{pos};
 ghost use lib.ListN.{length};
 ghost use lib.Seq.{sets};
@@ -9,11 +9,11 @@ ghost use Rattle.format.specs.Encodings.{maxChunkElements};
 ghost use Rattle.format.specs.Keys.{wrappingAdd};
 ghost use Rattle.format.specs.Frame.{validateFrame, frameValues};
 ghost use Rattle.format.specs.Parts.{extentAnswerOf};
-ghost use Rattle.format.proofs.numbers.Words.{sum8};
 ghost use Rattle.codec.specs.Packed.{Inside};
 use codec::block::block_len;
 use codec::block::packed_bytes;
 use codec::body::settle_packed;
+use codec::load::key_at;
 use format::ExtentAnswer;
 use format::Padded;
 use format::refusal::FRAME_CUT;
@@ -27,27 +27,6 @@ pub(crate) fn settle_body(chunk: &[u8], start: usize, count: usize, padded: Padd
         return ExtentAnswer::Malformed(FRAME_CUT, start);
     }
     settle_packed(chunk, start + 8, count, padded)
-}
-
-fn wide(x: u8) -> u64
-    ensures { λ r. ⌜ (r ≡ x) × (r < 256) ⌝ }
-{
-    x as u64
-}
-
-// The eight bytes from p on. The compiler makes one load of this sum.
-fn word(s: &[u8], p: usize) -> u64
-    requires { ⌜ p + 8 ≤ length (now s) ⌝ }
-    ensures { λ r. ⌜ r ≡ sum8 (now (s .entry)) p ⌝ }
-{
-    wide(s[p])
-        + wide(s[p + 1]) * 256
-        + wide(s[p + 2]) * 65536
-        + wide(s[p + 3]) * 16777216
-        + wide(s[p + 4]) * 4294967296
-        + wide(s[p + 5]) * 1099511627776
-        + wide(s[p + 6]) * 281474976710656
-        + wide(s[p + 7]) * 72057594037927936
 }
 
 // The key that a difference above the least value is. The sum wraps.
@@ -72,7 +51,7 @@ pub(crate) fn fill(chunk: &[u8], start: usize, count: usize, column: &mut [i64])
     requires { ⌜ Inside (now chunk) (start + 8) count × (count ≤ length (now column)) ⌝ }
     ensures { λ _. ⌜ now (column .exit) ≡ sets (now (column .entry)) 0 (frameValues (now (chunk .entry)) start count) ⌝ }
 {
-    let least = number::of_bits(word(chunk, start));
+    let least = key_at(chunk, start);
     let width = chunk[start + 8] as u32;
     let mut block = [0u64; 128];
     let mut at = start + 9;

@@ -1,5 +1,5 @@
 -- A turn of each loop: a byte of a word is stored, the word of a value, the value of a word. What is left shrinks by just that (`Storing`).
-use mathlib.Core.Path.{_≡_, ap, _∙_}
+use mathlib.Core.Path.{_≡_}
 use Prim.Native.Nat.{ℕ, suc, _+_, _-_, _*_, _/_, _%_, _≤_, _<_}
 use native.Mathlib.Nat.{add-assoc}
 use native.Mathlib.Numerals.{add-one}
@@ -9,12 +9,10 @@ use lib.IntN.{ℤ, pos}
 use lib.ListN.{length, getD, set, drop, drop-of-length-le}
 use lib.Seq.{sets, drop-cons}
 use Rattle.format.specs.Digits.{digits}
-use Rattle.format.specs.Keys.{asSigned, keyBytes, keyAt}
+use Rattle.format.specs.Keys.{keyBytes, keyAt}
 use Rattle.format.specs.Plain.{plainBody, plainValues}
 use Rattle.format.proofs.numbers.Keys.{length-keyBytes}
 use Rattle.format.proofs.numbers.Stores.{Storing, storing-part, storing-one}
-use Rattle.format.proofs.numbers.All.{Below}
-use Rattle.format.proofs.numbers.Words.{sum8, word-taken}
 
 -- ---- the bytes of a word
 
@@ -62,8 +60,3 @@ module _ (s : List ℕ) where
       let e : n - i ≡ suc (n - (i + 1)) = omega arith in
       let p : start + 8 * i + 8 ≡ start + 8 * (i + 1) = omega arith in
       storing-one t (keyAt s (start + 8 * i)) (plainValues s (start + 8 * (i + 1)) (n - (i + 1))) (rw (e, p))
-
-  -- the key of eight bytes that were loaded
-  pub key-loaded : Below 256 s → (p : ℕ) {w : ℕ} → p + 8 ≤ length s → w ≡ sum8 s p → asSigned w ≡ keyAt s p
-  unfolding keyAt
-  key-loaded b p h e = ap asSigned (e ∙ word-taken p b h)

@@ -10,7 +10,8 @@ use Rattle.format.specs.Plain.{plainValues}
 use Rattle.format.proofs.codecs.Counts.{length-plainValues}
 use Rattle.format.proofs.numbers.All.{all-by}
 use Rattle.format.proofs.numbers.Stores.{Storing, storing-none, storing-done, sets-stored}
-use Rattle.plain.proofs.Turns.{values-end, value-more, key-loaded}
+use Rattle.codec.proofs.Keys.{key-loaded}
+use Rattle.plain.proofs.Turns.{values-end, value-more}
 use Rattle.plain.proofs.fill.Statement.{statement}
 use Rattle.plain.proofs.fill.Tie as tie
 
@@ -30,7 +31,7 @@ loop-again c =
     let a = c .before .before .before .before .before .args in
     let s = a .chunk .now in
     let known = c .before .before .before .before .shared-slice-known .given in
-    let key = c .of-bits .ensures ∙ key-loaded s (all-by s 0 λ j _. known j .fits) (a .start + 8 * l .i) (omega arith) (c .before .word .ensures) in
+    let key = c .of-bits .ensures ∙ key-loaded (a .start + 8 * l .i) (all-by s 0 λ j _. known j .fits) (c .before .word .ensures) in
     (omega arith, rw (toZ-ofZ {w = w64} (record { sfits = c .of-bits .ok }), key) (value-more s (a .start) (a .count) (l .i) (l .inv .1) (omega arith)))
 
 same-length : tie.Need-same-length Inv-loop μ-loop

@@ -11,13 +11,12 @@ use mir.Val.{toZ, ofZ}
 use denote.Ref.{now}
 use borrow.Author.Needs.{needs}
 use Rattle.format.specs.Packing.{packedLen}
-use Rattle.format.specs.Keys.{asSigned, wrappingAdd, keyAt}
+use Rattle.format.specs.Keys.{wrappingAdd, keyAt}
 use Rattle.format.specs.Frame.{frameValues}
 use Rattle.format.proofs.numbers.All.{Below, all-by}
 use Rattle.codec.proofs.Blocks.{packed-counted}
 use Rattle.number.proofs.Signed.{held}
 use Rattle.codec.proofs.Filling.{Filling, filling-none, filling-more, filling-room, filling-done}
-use Rattle.frame.proofs.Differences.{key-loaded}
 use Rattle.frame.proofs.reading.fill.Statement.{statement}
 use Rattle.frame.proofs.reading.fill.Tie as tie
 
@@ -31,20 +30,15 @@ abbrev μ-loop : tie.MeasureT-loop
 -- ---- before the loop
 
 abbrev entry : tie.After-shared-slice-known2 Inv-loop μ-loop → tie.Start Inv-loop μ-loop
-entry c = c .before .before .before .before
+entry c = c .before .before .before
 
 bytes : (c : tie.After-shared-slice-known2 Inv-loop μ-loop) → Below 256 (now (entry c .args .chunk))
 bytes c = all-by (now (entry c .args .chunk)) 0 λ i _. c .shared-slice-known2 .given i .fits
 
--- the least value is the key of the eight bytes
+-- the least value
 loaded : (c : tie.After-shared-slice-known2 Inv-loop μ-loop)
-    → toZ w64 (ofZ w64 (c .before .of-bits .result)) ≡ keyAt (now (entry c .args .chunk)) (entry c .args .start)
-loaded c =
-    let o = c .before .of-bits in
-    held (o .result) (o .ok)
-    ∙ o .ensures
-    ∙ ap asSigned (c .before .before .word .ensures)
-    ∙ key-loaded (entry c .args .start) (bytes c) (omega (arith, entry c .pre .0 .there))
+    → toZ w64 (ofZ w64 (c .before .key-at .result)) ≡ keyAt (now (entry c .args .chunk)) (entry c .args .start)
+loaded c = let k = c .before .key-at in held (k .result) (k .ok) ∙ k .ensures
 
 -- ---- a turn
 
@@ -102,9 +96,8 @@ fill-spec =
     (tie.spec
     Inv-loop
     μ-loop
-    (λ c κs. omega (arith, c .before .pre .0 .there))
     (λ c κs. search needs)
-    (λ c. omega (arith, c .before .before .before .pre .0 .there))
+    (λ c. omega (arith, c .before .before .pre .0 .there))
     (λ c. entry c .pre .0 .there)
     (λ c. search needs)
     (λ c. omega (arith, entry c .pre .0 .bytes))
