@@ -90,7 +90,7 @@ pub fn refusal_of_header(answer: HeaderAnswer) -> Answer
     }
 }
 
-// The count and what follows it.
+// The count and what follows it. An answer has no id: the 0 that the definition is given stands for none, and any other number would do.
 fn read_count(chunk: &[u8]) -> HeaderAnswer
     ensures { λ r. ⌜ r ≡ headerAnswerOf (countOutcome 0 (now (chunk .entry))) ⌝ }
 {
