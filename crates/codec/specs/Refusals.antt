@@ -18,13 +18,13 @@ use Rattle.format.specs.declared.HeaderAnswer.the-variants.{Found, Malformed as
 use Rattle.format.specs.declared.ExtentAnswer.{ExtentAnswer}
 use Rattle.format.specs.declared.ExtentAnswer.the-variants.{Ends, Malformed as MalformedExtent}
 
-abbrev pub headerRefusal : UvarintAnswer → HeaderAnswer
-headerRefusal (Read value next unpadded) = MalformedHeader 0 0
-headerRefusal (Malformed number offset) = MalformedHeader number offset
+abbrev pub refusalOfCount : UvarintAnswer → HeaderAnswer
+refusalOfCount (Read value next unpadded) = MalformedHeader 0 0
+refusalOfCount (Malformed number offset) = MalformedHeader number offset
 
-abbrev pub extentRefusal : UvarintAnswer → ExtentAnswer
-extentRefusal (Read value next unpadded) = MalformedExtent 0 0
-extentRefusal (Malformed number offset) = MalformedExtent number offset
+abbrev pub refusalOfUvarint : UvarintAnswer → ExtentAnswer
+refusalOfUvarint (Read value next unpadded) = MalformedExtent 0 0
+refusalOfUvarint (Malformed number offset) = MalformedExtent number offset
 
 abbrev pub refusalOfHeader : HeaderAnswer → Answer
 refusalOfHeader (Found count start padded) = Refused 0 0

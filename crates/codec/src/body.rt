@@ -5,7 +5,7 @@ ghost use Rattle.format.specs.Outcome.{ok};
 ghost use Rattle.format.specs.Answers.{answerOf};
 ghost use Rattle.format.specs.Varint.{firstPadded, validateUvarints};
 ghost use Rattle.format.specs.Parts.{extentAnswerOf, packedExtent, settled};
-ghost use Rattle.codec.specs.Refusals.{extentRefusal, extent, outcomeOf, roomOutcome};
+ghost use Rattle.codec.specs.Refusals.{refusalOfUvarint, extent, outcomeOf, roomOutcome};
 use crate::block::packed_bytes;
 use format::Answer;
 use format::ExtentAnswer;
@@ -27,8 +27,8 @@ pub fn first_padded(padded: Padded, at: usize, unpadded: bool) -> Padded
 }
 
 // A varint's refusal as the body's. A varint that was read has none: 0, at 0.
-pub fn malformed(answer: UvarintAnswer) -> ExtentAnswer
-    ensures { λ r. ⌜ r ≡ extentRefusal answer ⌝ }
+pub fn refusal_of_uvarint(answer: UvarintAnswer) -> ExtentAnswer
+    ensures { λ r. ⌜ r ≡ refusalOfUvarint answer ⌝ }
 {
     match answer {
         UvarintAnswer::Read(_, _, _) => ExtentAnswer::Malformed(0, 0),
@@ -46,7 +46,7 @@ pub fn settle_uvarints(chunk: &[u8], from: usize, n: usize, before: Padded) -> E
     while i < n {
         let read = varint::read_uvarint(chunk, at);
         let UvarintAnswer::Read(_, next, unpadded) = read else {
-            return malformed(read);
+            return refusal_of_uvarint(read);
         };
         padded = first_padded(padded, at, unpadded);
         at = next;

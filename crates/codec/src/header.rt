@@ -6,7 +6,7 @@ ghost use Rattle.format.specs.Encodings as Encodings;
 ghost use Rattle.format.specs.Header.{headerBytes, headerLen};
 ghost use Rattle.format.specs.Parts.{peekAnswer, headerAnswer, headerAnswerOf};
 ghost use Rattle.codec.specs.Places.{fitting, laid, laidEnd};
-ghost use Rattle.codec.specs.Refusals.{headerRefusal, refusalOfHeader, countOutcome};
+ghost use Rattle.codec.specs.Refusals.{refusalOfCount, refusalOfHeader, countOutcome};
 use crate::body::first_padded;
 use crate::encoding_id;
 use crate::encoding_of;
@@ -70,9 +70,9 @@ pub fn peek_encoding(chunk: &[u8]) -> EncodingAnswer
     encoding_of(id)
 }
 
-// A varint's refusal as the header's. A varint that was read has none: 0, at 0.
-fn malformed_header(answer: UvarintAnswer) -> HeaderAnswer
-    ensures { λ r. ⌜ r ≡ headerRefusal answer ⌝ }
+// The count's refusal as the header's. A count that was read has none: 0, at 0.
+fn refusal_of_count(answer: UvarintAnswer) -> HeaderAnswer
+    ensures { λ r. ⌜ r ≡ refusalOfCount answer ⌝ }
 {
     match answer {
         UvarintAnswer::Read(_, _, _) => HeaderAnswer::Malformed(0, 0),
@@ -96,7 +96,7 @@ fn read_count(chunk: &[u8]) -> HeaderAnswer
 {
     let read = varint::read_uvarint(chunk, 2);
     let UvarintAnswer::Read(count, start, unpadded) = read else {
-        return malformed_header(read);
+        return refusal_of_count(read);
     };
     if count > MAX_CHUNK_ELEMENTS as u64 {
         return HeaderAnswer::Malformed(format::refusal::COUNT_ABOVE_LIMIT, 2);

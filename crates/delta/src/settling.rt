@@ -7,7 +7,7 @@ ghost use Rattle.format.specs.Delta.{blockCount, validateBlocks, validateDelta}
 ghost use Rattle.delta.specs.There.{blockExtent};
 use codec::block::at_most;
 use codec::body::first_padded;
-use codec::body::malformed;
+use codec::body::refusal_of_uvarint;
 use codec::body::settle_packed;
 use format::ExtentAnswer;
 use format::Padded;
@@ -21,7 +21,7 @@ fn settle_block(chunk: &[u8], at: usize, n: usize, padded: Padded) -> ExtentAnsw
 {
     let read = varint::read_uvarint(chunk, at);
     let UvarintAnswer::Read(_, next, unpadded) = read else {
-        return malformed(read);
+        return refusal_of_uvarint(read);
     };
     settle_packed(chunk, next, n, first_padded(padded, at, unpadded))
 }
@@ -63,11 +63,11 @@ pub(crate) fn settle_body(chunk: &[u8], start: usize, count: usize, before: Padd
     }
     let first = varint::read_uvarint(chunk, start);
     let UvarintAnswer::Read(_, next, first_unpadded) = first else {
-        return malformed(first);
+        return refusal_of_uvarint(first);
     };
     let block_size = varint::read_uvarint(chunk, next);
     let UvarintAnswer::Read(size, blocks, size_unpadded) = block_size else {
-        return malformed(block_size);
+        return refusal_of_uvarint(block_size);
     };
     if size == 0 || size > MAX_DELTA_BLOCK_SIZE {
         return ExtentAnswer::Malformed(BLOCK_SIZE_OUT_OF_RANGE, blocks);

@@ -8,7 +8,7 @@ ghost use Rattle.format.specs.Dictionary.{validateDictionary, allBelow};
 ghost use Rattle.format.specs.Parts.{extentAnswerOf};
 ghost use Rattle.dictionary.specs.Reading.{Codes, settledCodes};
 use codec::body::first_padded;
-use codec::body::malformed;
+use codec::body::refusal_of_uvarint;
 use codec::body::settle_packed;
 use codec::body::settle_uvarints;
 use format::ExtentAnswer;
@@ -93,7 +93,7 @@ pub(crate) fn settle_body(chunk: &[u8], start: usize, count: usize, padded: Padd
 {
     let read = varint::read_uvarint(chunk, start);
     let UvarintAnswer::Read(entries, next, unpadded) = read else {
-        return malformed(read);
+        return refusal_of_uvarint(read);
     };
     if entries > (chunk.len() - next) as u64 {
         return ExtentAnswer::Malformed(format::refusal::ENTRIES_ABOVE_BYTES, next);

@@ -11,7 +11,7 @@ ghost use Rattle.format.specs.Varint.{uvarintAt};
 use crate::near::read_length;
 use crate::near::settle_key;
 use codec::body::first_padded;
-use codec::body::malformed;
+use codec::body::refusal_of_uvarint;
 use format::ExtentAnswer;
 use format::Padded;
 use format::UvarintAnswer;
@@ -40,7 +40,7 @@ fn settle_runs(chunk: &[u8], from: usize, n: usize, count: usize, before: Padded
         };
         let length = read_length(chunk, middle);
         let UvarintAnswer::Read(times, next, unpadded) = length else {
-            return malformed(length);
+            return refusal_of_uvarint(length);
         };
         if above_rest(times, done, count) {
             return ExtentAnswer::Malformed(format::refusal::RUN_ABOVE_REST, next);
@@ -61,7 +61,7 @@ pub(crate) fn settle_body(chunk: &[u8], start: usize, count: usize, padded: Padd
 {
     let total = varint::read_uvarint(chunk, start);
     let UvarintAnswer::Read(n, next, unpadded) = total else {
-        return malformed(total);
+        return refusal_of_uvarint(total);
     };
     if n > count as u64 {
         return ExtentAnswer::Malformed(format::refusal::RUNS_ABOVE_COUNT, next);

@@ -5,7 +5,7 @@ use native.Mathlib.Nat.{sub-zero}
 use borrow.Author.Needs.{needs}
 use Rattle.format.specs.Varint.{validateUvarints}
 use Rattle.format.specs.Parts.{extentAnswerOf}
-use Rattle.codec.specs.Refusals.{extentRefusal}
+use Rattle.codec.specs.Refusals.{refusalOfUvarint}
 use Rattle.codec.proofs.Rows.{row-read, row-refused, row-end}
 use Rattle.codec.proofs.body.settle_uvarints.Statement.{statement}
 use Rattle.codec.proofs.body.settle_uvarints.Tie as tie
@@ -23,8 +23,8 @@ returns : tie.Need-returns Inv-loop μ-loop
 returns c =
     let turn = c .before .before .before in
     let answer = sym (turn .read-uvarint .ensures) ∙ c .before .enum-told .given .1 in
-    c .malformed .ensures
-    ∙ ap extentRefusal (c .before .enum-told .given .1)
+    c .refusal-of-uvarint .ensures
+    ∙ ap refusalOfUvarint (c .before .enum-told .given .1)
     ∙ ap extentAnswerOf (sym (row-refused _ _ _ (turn .before .loop-test .taken) answer) ∙ turn .before .before .loop .inv)
 
 loop-again : tie.Need-loop-again Inv-loop μ-loop

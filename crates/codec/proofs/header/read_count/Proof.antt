@@ -4,7 +4,7 @@ use borrow.Author.Needs.{needs}
 use Rattle.format.specs.Parts.{headerAnswerOf}
 use Rattle.format.specs.declared.HeaderAnswer.the-variants.{Found}
 use Rattle.format.specs.declared.Padded.{Padded}
-use Rattle.codec.specs.Refusals.{headerRefusal}
+use Rattle.codec.specs.Refusals.{refusalOfCount}
 use Rattle.codec.proofs.Headers.{count-refused, count-large, count-found}
 use Rattle.codec.proofs.header.read_count.Statement.{statement}
 use Rattle.codec.proofs.header.read_count.Tie as tie
@@ -13,7 +13,7 @@ returns : tie.Need-returns
 returns c =
     let call = c .before .before .before in
     let told = c .before .enum-told .given .1 in
-    c .malformed-header .ensures ∙ ap headerRefusal told ∙ ap headerAnswerOf (sym (count-refused _ (sym (call .read-uvarint .ensures) ∙ told)))
+    c .refusal-of-count .ensures ∙ ap refusalOfCount told ∙ ap headerAnswerOf (sym (count-refused _ (sym (call .read-uvarint .ensures) ∙ told)))
 
 returns-2 : tie.Need-returns-2
 returns-2 c =

@@ -3,7 +3,7 @@ use mathlib.Core.Path.{sym, ap, _∙_}
 use denote.Ref.{now}
 use borrow.Author.Needs.{needs}
 use Rattle.format.specs.Parts.{extentAnswerOf}
-use Rattle.codec.specs.Refusals.{extentRefusal}
+use Rattle.codec.specs.Refusals.{refusalOfUvarint}
 use Rattle.delta.proofs.Asking.{block-read, block-unread}
 use Rattle.delta.proofs.settling.settle_block.Statement.{statement}
 use Rattle.delta.proofs.settling.settle_block.Tie as tie
@@ -12,7 +12,7 @@ returns : tie.Need-returns
 returns c =
     let turn = c .before .before .before in
     let told = c .before .enum-told .given .1 in
-    c .malformed .ensures ∙ ap extentRefusal told ∙ ap extentAnswerOf (sym (block-unread _ _ _ _ (sym (turn .read-uvarint .ensures) ∙ told)))
+    c .refusal-of-uvarint .ensures ∙ ap refusalOfUvarint told ∙ ap extentAnswerOf (sym (block-unread _ _ _ _ (sym (turn .read-uvarint .ensures) ∙ told)))
 
 returns-2 : tie.Need-returns-2
 returns-2 c =

@@ -8,7 +8,7 @@ use borrow.Author.Tests.{ltb-true, ltb-false}
 use Rattle.format.specs.Standalone.{uvarintAnswer}
 use Rattle.format.specs.Parts.{extentAnswerOf}
 use Rattle.format.specs.declared.UvarintAnswer.the-variants.{Read}
-use Rattle.codec.specs.Refusals.{extentRefusal}
+use Rattle.codec.specs.Refusals.{refusalOfUvarint}
 use Rattle.delta.proofs.Asking.{body-none, body-unread, size-unread, size-outside, size-inside, below-range, above-range}
 use Rattle.delta.proofs.settling.settle_body.Statement.{statement}
 use Rattle.delta.proofs.settling.settle_body.Tie as tie
@@ -32,8 +32,8 @@ returns-2 c =
     let read = c .before .before .before in
     let a = read .before .before .before .args in
     let told = c .before .enum-told .given .1 in
-    c .malformed .ensures
-    ∙ ap extentRefusal told
+    c .refusal-of-uvarint .ensures
+    ∙ ap refusalOfUvarint told
     ∙ ap extentAnswerOf (sym (body-unread (now (a .chunk)) (a .start) (a .count) (a .before) (omega arith) (sym (read .read-uvarint .ensures) ∙ told)))
 
 returns-3 : tie.Need-returns-3
@@ -42,8 +42,8 @@ returns-3 c =
     let k = read .before in
     let a = entry k .args in
     let told = c .before .enum-told2 .given .1 in
-    c .malformed2 .ensures
-    ∙ ap extentRefusal told
+    c .refusal-of-uvarint2 .ensures
+    ∙ ap refusalOfUvarint told
     ∙ ap extentAnswerOf (sym (size-unread (now (a .chunk)) (a .start) (a .count) (a .before) (omega arith) (first-read k) (sym (read .read-uvarint2 .ensures) ∙ told)))
 
 returns-4 : tie.Need-returns-4

@@ -2,7 +2,7 @@
 use mathlib.Core.Path.{sym, ap, _∙_}
 use borrow.Author.Needs.{needs}
 use Rattle.format.specs.Parts.{extentAnswerOf}
-use Rattle.codec.specs.Refusals.{extentRefusal}
+use Rattle.codec.specs.Refusals.{refusalOfUvarint}
 use Rattle.varint.proofs.Answers.{answer-read, read-range}
 use Rattle.dictionary.proofs.Questions.{ends-found, malformed-found, total-refused, total-large, entries-refused, entries-passed}
 use Rattle.dictionary.proofs.reading.settle_body.Statement.{statement}
@@ -12,7 +12,7 @@ returns : tie.Need-returns
 returns c =
     let told = c .before .enum-told .given .1 in
     let call = c .before .before .before .read-uvarint in
-    c .malformed .ensures ∙ ap extentRefusal told ∙ ap extentAnswerOf (sym (total-refused _ _ _ _ (sym (call .ensures) ∙ told)))
+    c .refusal-of-uvarint .ensures ∙ ap refusalOfUvarint told ∙ ap extentAnswerOf (sym (total-refused _ _ _ _ (sym (call .ensures) ∙ told)))
 
 sub-if1 : tie.Need-sub-if1
 sub-if1 c =

@@ -2,7 +2,7 @@
 use mathlib.Core.Path.{sym, ap, _∙_}
 use borrow.Author.Needs.{needs}
 use Rattle.format.specs.Parts.{extentAnswerOf}
-use Rattle.codec.specs.Refusals.{extentRefusal}
+use Rattle.codec.specs.Refusals.{refusalOfUvarint}
 use Rattle.runs.proofs.Asks.{total-refused, total-above, total-read}
 use Rattle.runs.proofs.reading.settle_body.Statement.{statement}
 use Rattle.runs.proofs.reading.settle_body.Tie as tie
@@ -11,7 +11,7 @@ returns : tie.Need-returns
 returns c =
     let read = c .before .before .before in
     let e = c .before .enum-told .given .1 in
-    c .malformed .ensures ∙ ap extentRefusal e ∙ ap extentAnswerOf (sym (total-refused _ _ _ _ (sym (read .read-uvarint .ensures) ∙ e)))
+    c .refusal-of-uvarint .ensures ∙ ap refusalOfUvarint e ∙ ap extentAnswerOf (sym (total-refused _ _ _ _ (sym (read .read-uvarint .ensures) ∙ e)))
 
 returns-2 : tie.Need-returns-2
 returns-2 c =

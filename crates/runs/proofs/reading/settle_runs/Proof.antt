@@ -5,7 +5,7 @@ use Prim.Native.Nat.{_-_}
 use native.Mathlib.Omega.{arith}
 use borrow.Author.Needs.{needs}
 use Rattle.format.specs.Parts.{extentAnswerOf}
-use Rattle.codec.specs.Refusals.{extentRefusal}
+use Rattle.codec.specs.Refusals.{refusalOfUvarint}
 use Rattle.runs.proofs.Asks.{Asking, asking-none, asking-done, asking-short, key-refused, times-refused, times-above, asking-more}
 use Rattle.runs.proofs.reading.settle_runs.Statement.{statement}
 use Rattle.runs.proofs.reading.settle_runs.Tie as tie
@@ -28,8 +28,8 @@ returns-2 c =
     let key = read .before .before in
     let k = sym (key .before .before .settle-key .ensures) ∙ key .key .given .1 in
     let e = c .before .enum-told2 .given .1 in
-    c .malformed .ensures
-    ∙ ap extentRefusal e
+    c .refusal-of-uvarint .ensures
+    ∙ ap refusalOfUvarint e
     ∙ ap extentAnswerOf (sym (times-refused (key .before .before .before .before .loop .inv) (search needs) k (sym (read .read-length .ensures) ∙ e)))
 
 above-rest-requires : tie.Need-above-rest-requires Inv-loop μ-loop
