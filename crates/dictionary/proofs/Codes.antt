@@ -2,7 +2,7 @@
 use mathlib.Core.Path.{_≡_, refl, sym, ap, ap₂, _∙_}
 use mathlib.Core.Bool.{Bool, true, false, _&&_}
 use mathlib.Core.List.{List, [], _∷_, _++_, map}
-use Prim.Native.Nat.{ℕ, zero, suc, _+_, _-_, _<_, _≤_, zero-le}
+use Prim.Native.Nat.{ℕ, zero, suc, _+_, _-_, _<_, _≤_, min, zero-le}
 use native.Mathlib.Decide.{decLt}
 use native.Mathlib.Nat.{add-zero, sub-zero}
 use native.Mathlib.Numerals.{add-one}
@@ -13,6 +13,7 @@ use lib.ListN.{length, getD, set, take, drop, length-append, drop-of-length-le, 
 use lib.Seq.{drop-cons, drop-drop, drop-set-lt, sets}
 use borrow.Author.Tests.{lt-ltb, le-ltb, ltb-true}
 use Rattle.format.specs.Dictionary.{allBelow}
+use Rattle.format.proofs.numbers.All.{Below, all-none, all-more}
 use Rattle.format.proofs.numbers.Stores.{Storing, storing-none, storing-one, storing-done}
 use Rattle.dictionary.specs.Reading.{picked, pickedAll}
 
@@ -51,6 +52,15 @@ below-append entries (x ∷ xs) ys = rw (below-append entries xs ys) (and-assoc 
     and-assoc : (a b c : Bool) → (a && (b && c)) ≡ ((a && b) && c)
     and-assoc true b c = refl
     and-assoc false b c = refl
+
+-- of two bounds, the lesser
+pub below-min : (entries bound : ℕ) {codes : List ℕ} → allBelow entries codes ≡ true → Below bound codes → allBelow (min entries bound) codes ≡ true
+unfolding allBelow
+below-min entries bound e all-none = refl
+below-min entries bound e (all-more {x = c} {xs = cs} h r) =
+    let one = both-true (ltb c entries) (allBelow entries cs) e in
+    let low = ltb-true c entries (one .0) in
+    rw (lt-ltb c (min entries bound) (omega arith)) (below-min entries bound (one .1) r)
 
 -- ---- looked up
 
@@ -136,18 +146,18 @@ picked-front done table [] xs ys h = refl
 picked-front done table (c ∷ cs) [] ys h = absurd (omega arith)
 picked-front done table (c ∷ cs) (x ∷ xs) ys h = ap (λ (r : List ℤ). picked done table c x ∷ r) (picked-front done table cs xs ys (omega arith))
 
--- a whole table has the entry of every code that is below
-pub picked-all : (table : List ℤ) (codes : List ℕ) (olds : List ℤ) → length codes ≤ length olds → allBelow (length table) codes ≡ true
-    → pickedAll 0 table codes olds ≡ map (λ code. getD table code (pos 0)) codes
+-- a table of the first entries has the entry of every code that is below: the entries after them are not looked at
+pub picked-all : (table later : List ℤ) (codes : List ℕ) (olds : List ℤ) → length codes ≤ length olds → allBelow (length table) codes ≡ true
+    → pickedAll 0 table codes olds ≡ map (λ code. getD (table ++ later) code (pos 0)) codes
 unfolding pickedAll allBelow
-picked-all table [] olds h b = refl
-picked-all table (c ∷ cs) [] h b = absurd (omega arith)
-picked-all table (c ∷ cs) (o ∷ os) h b =
+picked-all table later [] olds h b = refl
+picked-all table later (c ∷ cs) [] h b = absurd (omega arith)
+picked-all table later (c ∷ cs) (o ∷ os) h b =
     let one = both-true (ltb c (length table)) (allBelow (length table) cs) b in
     let low = ltb-true c (length table) (one .0) in
     ap₂ (λ (v : ℤ) (vs : List ℤ). v ∷ vs)
-    (picked-in 0 table c o zero-le (omega arith) ∙ ap (λ (k : ℕ). getD table k (pos 0)) (sub-zero c))
-    (picked-all table cs os (omega arith) (one .1))
+    (picked-in 0 table c o zero-le (omega arith) ∙ ap (λ (k : ℕ). getD table k (pos 0)) (sub-zero c) ∙ sym (List·getD-append table later (pos 0) c low))
+    (picked-all table later cs os (omega arith) (one .1))
 
 -- ---- storing them
 

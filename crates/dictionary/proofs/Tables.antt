@@ -1,21 +1,28 @@
--- A column filled by one table after the other: after `done` entries the values of all codes below `done` are stored, and those of the others are as they were.
+-- A column filled by one table after the other: after `done` entries the values of all codes below `done` are stored, and those of the others are as they were. All codes are below
+-- 2^w, so with as many entries the column is filled.
 use mathlib.Core.Path.{_≡_, refl, sym, ap, ap₂, _∙_}
 use mathlib.Core.Bool.{true}
 use mathlib.Core.List.{List, [], _++_, map}
-use Prim.Native.Nat.{ℕ, _+_, _-_, _≤_, _<_, zero-le}
+use Prim.Native.Nat.{ℕ, _+_, _-_, _^_, _≤_, _<_, min, zero-le}
 use native.Mathlib.Nat.{zero-add}
 use native.Mathlib.Omega.{arith}
 use lib.IntN.{ℤ, pos}
 use lib.ListN.{length, getD, take, drop, length-append, length-take, length-map, take-append-drop}
 use lib.Seq.{sets, drop-at}
+use lib.Pow.{pow-pos}
 use Rattle.format.specs.Answers.{stored}
-use Rattle.format.specs.Varint.{uvarintAt, uvarintValues, afterUvarints}
-use Rattle.format.specs.Packing.{packedValues}
+use Rattle.format.specs.Varint.{uvarintValues, afterUvarints}
+use Rattle.format.specs.Packing.{unpacked, packedValues}
+use Rattle.format.specs.Digits.{ofDigits}
 use Rattle.format.specs.Dictionary.{allBelow, entriesOf, dictionaryValues}
 use Rattle.format.proofs.codecs.Counts.{length-packedValues}
+use Rattle.format.proofs.numbers.All.{Below}
+use Rattle.format.proofs.numbers.Digits.{below-digits}
 use Rattle.format.proofs.numbers.Stores.{sets-stored}
+use Rattle.varint.specs.Finding.{foundAt}
+use Rattle.varint.specs.declared.find.Found.{Found}
 use Rattle.dictionary.specs.Reading.{entriesAt, pickedAll, Codes, ReadBody}
-use Rattle.dictionary.proofs.Codes.{length-picked, picked-tables, picked-none, picked-front, picked-all}
+use Rattle.dictionary.proofs.Codes.{below-min, length-picked, picked-tables, picked-none, picked-front, picked-all}
 use Rattle.dictionary.proofs.ReadEntries.{lastOr, last-append, last-at, length-values, values-add, after-add, length-entries, entries-append, entries-are}
 
 -- a list stored over another of its length
@@ -115,31 +122,48 @@ module _ (s : List ℕ) (from : ℕ) where
         let all : done ≡ n = omega (arith, g .passed) in
         g .column-is ∙ ap (λ (k : ℕ). sets l 0 (pickedAll 0 (entriesAt 0 (pos 0) (uvarintValues s from k)) codes l)) all
 
-  -- all entries at last: the entry of each code
-  pub filled-values : (n : ℕ) (codes : List ℕ) (l : List ℤ) → length codes ≤ length l → allBelow n codes ≡ true
-      → sets l 0 (pickedAll 0 (entriesAt 0 (pos 0) (uvarintValues s from n)) codes l) ≡ stored (map (λ code. getD (entriesOf (uvarintValues s from n)) code (pos 0)) codes) l
-  filled-values n codes l h b =
-      let vs = uvarintValues s from n in
-      let long : length (entriesAt 0 (pos 0) vs) ≡ n = length-entries 0 (pos 0) vs ∙ length-values s from n in
-      let all = picked-all (entriesAt 0 (pos 0) vs) codes l h (ap (λ (k : ℕ). allBelow k codes) long ∙ b) in
-      ap (sets l 0) (all ∙ ap (λ (t : List ℤ). map (λ code. getD t code (pos 0)) codes) (entries-are vs))
-      ∙ sets-stored _ l (omega (arith, length-map codes (λ code. getD (entriesOf vs) code (pos 0))))
+  -- enough entries at last: the entry of each code, among all n of them
+  pub filled-values : {bound n : ℕ} (codes : List ℕ) (l : List ℤ) → length codes ≤ length l → bound ≤ n → allBelow bound codes ≡ true
+      → sets l 0 (pickedAll 0 (entriesAt 0 (pos 0) (uvarintValues s from bound)) codes l) ≡ stored (map (λ code. getD (entriesOf (uvarintValues s from n)) code (pos 0)) codes) l
+  unfolding entries
+  filled-values {bound} {n} codes l h some b =
+      let later = entriesAt bound (lastOr (pos 0) (entries bound)) (uvarintValues s (afterUvarints s from bound) (n - bound)) in
+      let sum : bound + (n - bound) ≡ n = omega arith in
+      let whole : entries bound ++ later ≡ entriesOf (uvarintValues s from n)
+      = sym (entries-more bound (n - bound)) ∙ ap entries sum ∙ entries-are (uvarintValues s from n) in
+      let all = picked-all (entries bound) later codes l h (ap (λ (k : ℕ). allBelow k codes) (length-first bound) ∙ b) in
+      ap (sets l 0) (all ∙ ap (λ (t : List ℤ). map (λ code. getD t code (pos 0)) codes) whole)
+      ∙ sets-stored _ l (omega (arith, length-map codes (λ code. getD (entriesOf (uvarintValues s from n)) code (pos 0))))
+
+-- a packed code is below 2^w
+codes-below : (s : List ℕ) (at w count : ℕ) → Below (2 ^ w) (packedValues s at w count)
+unfolding packedValues unpacked
+codes-below s at w count = below-digits (2 ^ w) count (ofDigits 256 (drop at s)) (pow-pos w)
 
 -- ---- a body that was passed
 
-module _ (s : List ℕ) (start count : ℕ) (l : List ℤ) (b : ReadBody s start count) (room : count ≤ length l)
-    {value next place : ℕ} (ev : value ≡ uvarintAt s start .value) (en : next ≡ uvarintAt s start .next) (ep : place ≡ afterUvarints s next value)
+module _ {s : List ℕ} {start count : ℕ} (b : ReadBody s start count) {total : Found} (et : total ≡ foundAt s start)
+    {place : ℕ} (ep : place ≡ afterUvarints s (total .next) (total .value))
   where
-    -- what filling by tables is told
-    pub body-room : (value ≤ length s) × Codes s place count
-    body-room = rw (ep, ev, en) (b .entries, b .codes)
+    -- its codes are there
+    pub body-codes : Codes s place count
+    body-codes = rw (ep, et) (b .codes)
 
-    -- and what it leaves
-    pub body-values : {out : List ℤ} → out ≡ sets l 0 (pickedAll 0 (entriesAt 0 (pos 0) (uvarintValues s next value)) (packedValues s (place + 1) (getD s place 0) count) l)
-        → out ≡ stored (dictionaryValues s start count) l
-    unfolding dictionaryValues
-    body-values {out} e =
-        let codes = packedValues s (place + 1) (getD s place 0) count in
-        let below : allBelow value codes ≡ true = rw (ep, ev, en) (b .below) in
-        let many : length codes ≤ length l = rw (length-packedValues s (place + 1) (getD s place 0) count) room in
-        e ∙ filled-values s next value codes l many below ∙ rw (ep, ev, en) refl
+    module _ {used : ℕ} (eu : used ≡ min (total .value) (2 ^ getD s place 0)) where
+      -- the entries in their reach are no more than the chunk has bytes
+      pub body-room : used ≤ length s
+      body-room = let most : total .value ≤ length s = rw et (b .entries) in omega arith
+
+      -- and with these each code has its value
+      pub body-values : (l : List ℤ) {out : List ℤ} → count ≤ length l
+          → out ≡ sets l 0 (pickedAll 0 (entriesAt 0 (pos 0) (uvarintValues s (total .next) used)) (packedValues s (place + 1) (getD s place 0) count) l)
+          → out ≡ stored (dictionaryValues s start count) l
+      unfolding dictionaryValues
+      body-values l room e =
+          let codes = packedValues s (place + 1) (getD s place 0) count in
+          let below : allBelow (total .value) codes ≡ true = rw (ep, et) (b .below) in
+          let narrow = codes-below s (place + 1) (getD s place 0) count in
+          let named : allBelow used codes ≡ true = rw eu (below-min (total .value) (2 ^ getD s place 0) below narrow) in
+          let many : length codes ≤ length l = rw (length-packedValues s (place + 1) (getD s place 0) count) room in
+          let some : used ≤ total .value = omega arith in
+          e ∙ filled-values s (total .next) codes l many some named ∙ rw (ep, et) refl

@@ -1,36 +1,21 @@
 // The values of a Dictionary body. No scratch is lent for its entries: they are read into a local table, as many at a time as
-// it holds, and for each table the codes are walked through. A chunk that we wrote has one table; one of more than 16,384
-// entries costs a walk over its codes for each 16,384 of them.
+// it holds, and for each table the codes are walked through. Entries that no code of the body's width can name are left out: a
+// chunk may have millions of them. So codes of up to 14 bits, as all that we write are, need one table; wider ones cost a walk
+// over the codes for each 16,384 entries.
 ghost use mathlib.Core.Path.{_≡_};
-ghost use Prim.Native.Nat.{_+_, _-_, _≤_, _<_, min};
+ghost use Prim.Native.Nat.{_+_, _^_, _≤_, _<_, min};
 ghost use lib.ListN.{length, drop, getD};
 ghost use lib.IntN.{pos};
 ghost use lib.Seq.{sets};
 ghost use Rattle.format.specs.Answers.{stored};
-ghost use Rattle.format.specs.Varint.{uvarintAt, uvarintValues, afterUvarints};
+ghost use Rattle.format.specs.Varint.{uvarintValues, afterUvarints};
 ghost use Rattle.format.specs.Packing.{packedValues};
 ghost use Rattle.format.specs.Dictionary.{dictionaryValues};
 ghost use Rattle.dictionary.specs.Reading.{entryAt, entriesAt, picked, pickedAll, Codes, ReadBody};
 use crate::reading::block_len;
 use crate::reading::bytes_for;
-use format::UvarintAnswer;
 use format::limits::MAX_DICTIONARY_CARDINALITY;
-
-// A varint's value and the place after it. A body that was passed has no other; for any other it is 0, at 0.
-struct Gap {
-    value: u64,
-    next: usize,
-}
-
-fn gap_at(chunk: &[u8], at: usize) -> Gap
-    ensures { λ r. ⌜ (r .value ≡ uvarintAt (now (chunk .entry)) at .value) × (r .next ≡ uvarintAt (now (chunk .entry)) at .next) ⌝ }
-{
-    let read = varint::read_uvarint(chunk, at);
-    let UvarintAnswer::Read(value, next, _) = read else {
-        return Gap { value: 0, next: 0 };
-    };
-    Gap { value, next }
-}
+use varint::find::find_any;
 
 // Entry i: the first by itself, any other by its gap from the last.
 fn entry_at(i: usize, last: i64, value: u64) -> i64
@@ -49,7 +34,7 @@ fn after_entries(chunk: &[u8], from: usize, n: usize) -> usize
     let mut at = from;
     let mut i = 0;
     while i < n {
-        at = gap_at(chunk, at).next;
+        at = find_any(chunk, at).next;
         i += 1;
     }
     at
@@ -65,7 +50,7 @@ fn load(chunk: &[u8], from: usize, done: usize, before: i64, table: &mut [i64]) 
     let mut last = before;
     let mut i = 0;
     while i < table.len() {
-        let gap = gap_at(chunk, at);
+        let gap = find_any(chunk, at);
         last = entry_at(done + i, last, gap.value);
         table[i] = last;
         at = gap.next;
@@ -125,6 +110,16 @@ fn lesser(a: usize, b: usize) -> usize
     if a < b { a } else { b }
 }
 
+// How many of n entries codes of w bits can name: a code is below 2^w.
+fn in_reach(n: usize, w: u32) -> usize
+    ensures { λ r. ⌜ r ≡ min n (2 ^ w) ⌝ }
+{
+    if w >= 64 {
+        return n;
+    }
+    lesser(n, 1usize << w)
+}
+
 // The values of all codes, by as many tables as the n entries fill.
 fn fill_by(
     chunk: &[u8],
@@ -157,14 +152,15 @@ pub(crate) fn fill(chunk: &[u8], start: usize, count: usize, column: &mut [i64])
     requires { ⌜ (count ≤ length (now column)) × ReadBody (now chunk) start count ⌝ }
     ensures { λ _. ⌜ now (column .exit) ≡ stored (dictionaryValues (now (chunk .entry)) start count) (now (column .entry)) ⌝ }
 {
-    let total = gap_at(chunk, start);
+    let total = find_any(chunk, start);
     let n = total.value as usize;
     let place = after_entries(chunk, total.next, n);
-    if n <= 256 {
+    let used = in_reach(n, chunk[place] as u32);
+    if used <= 256 {
         let mut small = [0i64; 256];
-        fill_by(chunk, total.next, n, place, count, &mut small, column);
+        fill_by(chunk, total.next, used, place, count, &mut small, column);
         return;
     }
     let mut table = [0i64; MAX_DICTIONARY_CARDINALITY];
-    fill_by(chunk, total.next, n, place, count, &mut table, column);
+    fill_by(chunk, total.next, used, place, count, &mut table, column);
 }

@@ -18,7 +18,7 @@ loop-holds : tie.Need-loop-holds Inv-loop μ-loop
 loop-holds c = rw sub-zero refl
 
 loop-again : tie.Need-loop-again Inv-loop μ-loop
-loop-again c = rw (c .gap-at .ensures .1) (after-step _ _ (c .before .loop-test .taken) ∙ c .before .before .loop .inv)
+loop-again c = rw (c .find-any .ensures) (after-step _ _ (c .before .loop-test .taken) ∙ c .before .before .loop .inv)
 
 returns : tie.Need-returns Inv-loop μ-loop
 returns c = sym (after-end _ _ (c .loop-test .left)) ∙ c .before .loop .inv

@@ -12,6 +12,7 @@ use mir.Facts.{toZ-ofZ}
 use borrow.Author.Needs.{needs}
 use Rattle.format.specs.Varint.{uvarintValues, afterUvarints}
 use Rattle.format.proofs.numbers.Stores.{Storing, storing-none}
+use Rattle.varint.specs.declared.find.Found.{Found}
 use Rattle.dictionary.specs.Reading.{entryAt, entriesAt}
 use Rattle.dictionary.proofs.ReadEntries.{after-step, after-end, load-step, load-done, length-entries, length-values}
 use Rattle.dictionary.proofs.lookup.load.Statement.{statement}
@@ -33,12 +34,12 @@ loop-again : tie.Need-loop-again Inv-loop μ-loop
 loop-again c =
     let turn = c .before .before in
     let l = turn .before .loop in
-    let gap = c .before .gap-at .ensures in
-    let entry = c .entry-at .ensures ∙ ap (entryAt _ _) (gap .0) in
+    let gap = c .before .find-any .ensures in
+    let entry = c .entry-at .ensures ∙ ap (entryAt _ _) (ap (λ (f : Found). f .value) gap) in
     let back : toZ w64 (ofZ w64 (c .entry-at .result)) ≡ c .entry-at .result = toZ-ofZ (record { sfits = c .entry-at .ok }) in
     let start = turn .before .before .before in
     let under : l .i < length (now (start .args .table)) = omega (arith, turn .loop-test .taken, l .inv .1 .long) in
-    rw (gap .1, back)
+    rw (gap, back)
     (after-step (now (start .args .chunk)) (l .at) under ∙ l .inv .0, load-step _ _ _ _ _ _ under (l .inv .1) entry)
 
 same-length : tie.Need-same-length Inv-loop μ-loop
