@@ -6,10 +6,10 @@ use Prim.Native.Nat.{ℕ, zero, suc, _+_, _-_, _<_, _≤_}
 use native.Mathlib.Omega.{arith}
 use lib.Dec.{leb, ltb}
 use lib.ListN.{length, getD}
-use borrow.Author.Tests.{le-leb, lt-leb, leb-true, ltb-true}
+use borrow.Author.Tests.{le-leb, lt-leb, leb-true}
 use Rattle.format.specs.Outcome.{Outcome, refused, ok, check, _>>=_}
 use Rattle.format.specs.Varint.{Extent, UvarintRead, readUvarint, uvarintAt, firstPadded, validateUvarints, afterUvarints}
-use Rattle.format.specs.Packing.{packedLen, widthAt, packedEnd, packedValues}
+use Rattle.format.specs.Packing.{widthAt, packedEnd, packedValues}
 use Rattle.format.specs.Encodings.{maxChunkElements}
 use Rattle.format.specs.Dictionary.{allBelow, validateDictionary}
 use Rattle.format.specs.Parts.{extentAnswerOf, packedExtent}
@@ -23,7 +23,9 @@ use Rattle.format.proofs.codecs.Outcome.{both-passed, check-passed}
 use Rattle.varint.proofs.Answers.{answer-read, answer-malformed}
 use Rattle.codec.specs.Refusals.{extent, outcomeOf}
 use Rattle.codec.proofs.Reading.{outcome-back}
-use Rattle.dictionary.specs.Reading.{settledCodes, Codes, ReadBody}
+use Rattle.codec.specs.Packed.{Inside}
+use Rattle.codec.proofs.Settling.{passed-inside}
+use Rattle.dictionary.specs.Reading.{settledCodes, ReadBody}
 
 -- what the questions found, by their answer
 pub ends-found : (o : Outcome Extent) {told : ExtentAnswer} {end : ℕ} {padded : Padded} → told ≡ extentAnswerOf o → told ≡ Ends end padded → o ≡ ok (extent end padded)
@@ -68,22 +70,13 @@ module _ (s : List ℕ) (place count entries : ℕ) (padded : Padded) (few : cou
     codes-over b = same-packed ∙ rw (h, b) refl
 
     -- the packed codes are there
-    pub codes-there : Codes s place count
-    unfolding packedExtent widthAt packedEnd
+    pub codes-there : Inside s place count
+    unfolding packedExtent
     codes-there =
         both-passed (check (leb count maxChunkElements) 21 0) _ h λ _ _ h₁.
         both-passed (widthAt s place) _ h₁ λ w width h₂.
         both-passed (packedEnd s (place + 1) w count) _ h₂ λ end ends h₃.
-        both-passed (check (ltb place (length s)) 10 place) _ width λ _ there h₄.
-        both-passed (check (leb w 64) 12 0) _ ends λ _ narrow h₅.
-        both-passed (check (leb (packedLen count w) (length s - (place + 1))) 13 (length s - (place + 1))) _ h₅ λ _ whole h₆.
-        let same : getD s place 0 ≡ w = cc in
-        record {
-          few = few;
-          there = ltb-true place (length s) (check-passed _ 10 place there);
-          narrow = rw same (leb-true w 64 (check-passed _ 12 0 narrow));
-          whole = rw same (leb-true (packedLen count w) (length s - (place + 1)) (check-passed _ 13 _ whole));
-        }
+        passed-inside few width ends
 
 -- ---- the whole body
 
@@ -114,11 +107,6 @@ width-is : (s : List ℕ) (place : ℕ) {w : ℕ} → widthAt s place ≡ ok w �
 unfolding widthAt
 width-is s place h = both-passed (check (ltb place (length s)) 10 place) _ h λ _ _ h₁. cc
 
-packed-again : (s : List ℕ) (place count : ℕ) (padded : Padded) {w end : ℕ} → count ≤ maxChunkElements → widthAt s place ≡ ok w → packedEnd s (place + 1) w count ≡ ok end
-    → packedExtent s place count padded ≡ ok (extent end padded)
-unfolding packedExtent
-packed-again s place count padded few a b = rw (le-leb count maxChunkElements few, a, b) refl
-
 -- varints that were passed end where they are walked to
 pub after-passed : (s : List ℕ) (at n : ℕ) (padded : Padded) {x : Extent} → validateUvarints s at n padded ≡ ok x → x .end ≡ afterUvarints s at n
 unfolding validateUvarints afterUvarints
@@ -142,6 +130,6 @@ body-passed s start count padded few h =
     let same : getD s (codes .end) 0 ≡ w = width-is s (codes .end) width in
     record {
       entries = rw at (omega (arith, leb-true (total .value) (length s - total .next) (check-passed _ 17 _ enough)));
-      codes = rw (at, place) (codes-there s (codes .end) count 0 padded few (packed-again s (codes .end) count padded few width ends));
+      codes = rw (at, place) (passed-inside few width ends);
       below = rw (at, place, same) (check-passed _ 18 _ below);
     }

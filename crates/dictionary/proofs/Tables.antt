@@ -21,7 +21,8 @@ use Rattle.format.proofs.numbers.Digits.{below-digits}
 use Rattle.format.proofs.numbers.Stores.{sets-stored}
 use Rattle.varint.specs.Finding.{foundAt}
 use Rattle.varint.specs.declared.find.Found.{Found}
-use Rattle.dictionary.specs.Reading.{entriesAt, pickedAll, Codes, ReadBody}
+use Rattle.codec.specs.Packed.{Inside}
+use Rattle.dictionary.specs.Reading.{entriesAt, pickedAll, ReadBody}
 use Rattle.dictionary.proofs.Codes.{below-min, length-picked, picked-tables, picked-none, picked-front, picked-all}
 use Rattle.dictionary.proofs.ReadEntries.{lastOr, last-append, last-at, length-values, values-add, after-add, length-entries, entries-append, entries-are}
 
@@ -146,7 +147,7 @@ module _ {s : List ℕ} {start count : ℕ} (b : ReadBody s start count) {total 
     {place : ℕ} (ep : place ≡ afterUvarints s (total .next) (total .value))
   where
     -- its codes are there
-    pub body-codes : Codes s place count
+    pub body-codes : Inside s place count
     body-codes = rw (ep, et) (b .codes)
 
     module _ {used : ℕ} (eu : used ≡ min (total .value) (2 ^ getD s place 0)) where

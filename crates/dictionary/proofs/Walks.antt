@@ -20,7 +20,8 @@ use Rattle.format.proofs.numbers.Stores.{Storing, storing-none, storing-part, s
 use Rattle.format.proofs.codecs.Counts.{length-packedValues}
 use Rattle.bitpack.proofs.Blocks.{values-block, unpack-front}
 use Rattle.bitpack.proofs.Parts.{part-rest}
-use Rattle.dictionary.specs.Reading.{pickedAll, Codes}
+use Rattle.codec.specs.Packed.{Inside}
+use Rattle.dictionary.specs.Reading.{pickedAll}
 use Rattle.dictionary.proofs.Codes.{below-append, length-picked, picked-append}
 
 module _ (s : List ℕ) (w : ℕ) where
@@ -90,9 +91,9 @@ module _ (s : List ℕ) (w : ℕ) where
 
 -- ---- the whole body
 
-pub walk-none : (s : List ℕ) {place count : ℕ} → Below 256 s → Codes s place count → Walk s (getD s place 0) count (place + 1) 0
+pub walk-none : (s : List ℕ) {place count : ℕ} → Below 256 s → Inside s place count → Walk s (getD s place 0) count (place + 1) 0
 walk-none s {place} {count} h c =
-    record { few = c .few; narrow = c .narrow; bytes = h; passed = zero-le; inside = rw (sub-zero count) (omega (arith, c .whole, c .there)) }
+    record { few = c .few; narrow = c .width; bytes = h; passed = zero-le; inside = rw (sub-zero count) (c .bytes) }
 
 -- ---- their values are stored
 

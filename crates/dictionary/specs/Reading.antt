@@ -1,6 +1,6 @@
 -- What the parts of reading a Dictionary body say. No public contract cites this file.
 use mathlib.Core.Path.{_≡_}
-use Prim.Native.Nat.{ℕ, suc, _+_, _-_, _≤_, _<_}
+use Prim.Native.Nat.{ℕ, suc, _+_, _-_, _≤_}
 use mathlib.Core.Bool.{true, cond}
 use mathlib.Core.List.{List, [], _∷_}
 use lib.IntN.{ℤ, pos}
@@ -9,9 +9,9 @@ use lib.ListN.{length, getD}
 use Rattle.format.specs.Outcome.{Outcome, ok, check, _>>=_}
 use Rattle.format.specs.Keys.{wrappingAdd, unzigzag}
 use Rattle.format.specs.Varint.{Extent, uvarintAt, afterUvarints}
-use Rattle.format.specs.Packing.{packedLen, widthAt, packedEnd, packedValues}
-use Rattle.format.specs.Encodings.{maxChunkElements}
+use Rattle.format.specs.Packing.{widthAt, packedEnd, packedValues}
 use Rattle.format.specs.Dictionary.{allBelow}
+use Rattle.codec.specs.Packed.{Inside}
 use Rattle.format.specs.declared.Padded.{Padded}
 
 -- the questions after the entries: 10, 12, 13, 18
@@ -43,17 +43,10 @@ pickedAll done table (c ∷ cs) (old ∷ olds) = picked done table c old ∷ pic
 
 -- ---- what filling is told
 
--- count codes are packed after the width byte at a place
-pub record Codes (s : List ℕ) (place count : ℕ) : Type 0 where
-  pub few : count ≤ maxChunkElements
-  pub there : place < length s
-  pub narrow : getD s place 0 ≤ 64
-  pub whole : packedLen count (getD s place 0) ≤ length s - (place + 1)
-
 -- a body that was passed: the entries are no more than the chunk has bytes, and the codes after them are all below
 pub record ReadBody (s : List ℕ) (start count : ℕ) : Type 0 where
   pub entries : uvarintAt s start .value ≤ length s
-  pub codes : Codes s (afterUvarints s (uvarintAt s start .next) (uvarintAt s start .value)) count
+  pub codes : Inside s (afterUvarints s (uvarintAt s start .next) (uvarintAt s start .value)) count
   pub below : allBelow (uvarintAt s start .value)
       (packedValues s (afterUvarints s (uvarintAt s start .next) (uvarintAt s start .value) + 1)
       (getD s (afterUvarints s (uvarintAt s start .next) (uvarintAt s start .value)) 0) count) ≡ true

@@ -11,9 +11,11 @@ ghost use Rattle.format.specs.Answers.{stored};
 ghost use Rattle.format.specs.Varint.{uvarintValues, afterUvarints};
 ghost use Rattle.format.specs.Packing.{packedValues};
 ghost use Rattle.format.specs.Dictionary.{dictionaryValues};
-ghost use Rattle.dictionary.specs.Reading.{entryAt, entriesAt, picked, pickedAll, Codes, ReadBody};
-use crate::reading::block_len;
-use crate::reading::bytes_for;
+ghost use Rattle.codec.specs.Packed.{Inside};
+ghost use Rattle.dictionary.specs.Reading.{entryAt, entriesAt, picked, pickedAll, ReadBody};
+use codec::block::at_most;
+use codec::block::block_len;
+use codec::block::packed_bytes;
 use format::limits::MAX_DICTIONARY_CARDINALITY;
 use varint::find::find_any;
 
@@ -87,7 +89,7 @@ fn pick_block(codes: &[u64], done: usize, table: &[i64], column: &mut [i64], fro
 
 // The values of all codes, packed after the width byte at `place`.
 fn look_up(chunk: &[u8], place: usize, count: usize, done: usize, table: &[i64], column: &mut [i64])
-    requires { ⌜ (count ≤ length (now column)) × Codes (now chunk) place count ⌝ }
+    requires { ⌜ (count ≤ length (now column)) × Inside (now chunk) place count ⌝ }
     ensures { λ _. ⌜ now (column .exit) ≡ sets (now (column .entry)) 0
         (pickedAll done (now (table .entry)) (packedValues (now (chunk .entry)) (place + 1) (getD (now (chunk .entry)) place 0) count) (now (column .entry))) ⌝ }
 {
@@ -99,15 +101,9 @@ fn look_up(chunk: &[u8], place: usize, count: usize, done: usize, table: &[i64],
         let n = block_len(count - i);
         bitpack::unpack(&chunk[at..], w, n, &mut block);
         pick_block(&block[..n], done, table, column, i);
-        at += bytes_for(n, w);
+        at += packed_bytes(n, w);
         i += n;
     }
-}
-
-fn lesser(a: usize, b: usize) -> usize
-    ensures { λ r. ⌜ r ≡ min a b ⌝ }
-{
-    if a < b { a } else { b }
 }
 
 // How many of n entries codes of w bits can name: a code is below 2^w.
@@ -117,7 +113,7 @@ fn in_reach(n: usize, w: u32) -> usize
     if w >= 64 {
         return n;
     }
-    lesser(n, 1usize << w)
+    at_most(n, 1usize << w)
 }
 
 // The values of all codes, by as many tables as the n entries fill.
@@ -130,7 +126,7 @@ fn fill_by(
     table: &mut [i64],
     column: &mut [i64],
 )
-    requires { ⌜ (n ≤ length (now chunk)) × (0 < length (now table)) × (count ≤ length (now column)) × Codes (now chunk) place count ⌝ }
+    requires { ⌜ (n ≤ length (now chunk)) × (0 < length (now table)) × (count ≤ length (now column)) × Inside (now chunk) place count ⌝ }
     ensures { λ _. ⌜ now (column .exit) ≡ sets (now (column .entry)) 0
         (pickedAll 0 (entriesAt 0 (pos 0) (uvarintValues (now (chunk .entry)) from n))
         (packedValues (now (chunk .entry)) (place + 1) (getD (now (chunk .entry)) place 0) count) (now (column .entry))) ⌝ }
@@ -139,7 +135,7 @@ fn fill_by(
     let mut last = 0;
     let mut done = 0;
     while done < n {
-        let held = lesser(n - done, table.len());
+        let held = at_most(n - done, table.len());
         at = load(chunk, at, done, last, &mut table[..held]);
         look_up(chunk, place, count, done, &table[..held], column);
         last = table[held - 1];

@@ -1,12 +1,15 @@
 // The questions of a Dictionary body. Every code is checked before a value is stored.
 ghost use mathlib.Core.Path.{_≡_};
-ghost use Prim.Native.Nat.{_+_, _-_, _≤_, _<_, min};
+ghost use Prim.Native.Nat.{_+_, _-_, _≤_, _<_};
 ghost use lib.ListN.{getD};
 ghost use Rattle.format.specs.Encodings.{maxChunkElements};
-ghost use Rattle.format.specs.Packing.{packedLen, packedValues};
+ghost use Rattle.format.specs.Packing.{packedValues};
 ghost use Rattle.format.specs.Dictionary.{validateDictionary, allBelow};
 ghost use Rattle.format.specs.Parts.{extentAnswerOf};
-ghost use Rattle.dictionary.specs.Reading.{Codes, settledCodes};
+ghost use Rattle.codec.specs.Packed.{Inside};
+ghost use Rattle.dictionary.specs.Reading.{settledCodes};
+use codec::block::block_len;
+use codec::block::packed_bytes;
 use codec::body::first_padded;
 use codec::body::refusal_of_uvarint;
 use codec::body::settle_packed;
@@ -29,24 +32,9 @@ fn block_below(codes: &[u64], entries: u64) -> bool
     true
 }
 
-// How many of `left` values the next block has.
-pub(crate) fn block_len(left: usize) -> usize
-    ensures { λ r. ⌜ r ≡ min left 128 ⌝ }
-{
-    if left < 128 { left } else { 128 }
-}
-
-// The bytes of a block of codes.
-pub(crate) fn bytes_for(count: usize, width: u32) -> usize
-    requires { ⌜ (count ≤ 128) × (width ≤ 64) ⌝ }
-    ensures { λ r. ⌜ r ≡ packedLen count width ⌝ }
-{
-    (count * width as usize + 7) / 8
-}
-
 // The same of all `count` codes, packed after the width byte at `place`.
 fn codes_below(chunk: &[u8], place: usize, count: usize, entries: u64) -> bool
-    requires { ⌜ Codes (now chunk) place count ⌝ }
+    requires { ⌜ Inside (now chunk) place count ⌝ }
     ensures { λ r. ⌜ r ≡ allBelow entries (packedValues (now (chunk .entry)) (place + 1) (getD (now (chunk .entry)) place 0) count) ⌝ }
 {
     let w = chunk[place] as u32;
@@ -59,7 +47,7 @@ fn codes_below(chunk: &[u8], place: usize, count: usize, entries: u64) -> bool
         if !block_below(&block[..n], entries) {
             return false;
         }
-        at += bytes_for(n, w);
+        at += packed_bytes(n, w);
         i += n;
     }
     true

@@ -5,7 +5,7 @@ use lib.Dec.{lit<}
 use lib.ListN.{length}
 use denote.Ref.{now}
 use borrow.Author.Needs.{needs}
-use Rattle.dictionary.specs.Reading.{Codes}
+use Rattle.codec.specs.Packed.{Inside}
 use Rattle.dictionary.proofs.Tables.{body-codes, body-room, body-values}
 use Rattle.dictionary.proofs.lookup.fill.Statement.{statement}
 use Rattle.dictionary.proofs.lookup.fill.Tie as tie
@@ -14,11 +14,11 @@ use Rattle.dictionary.proofs.lookup.fill.Tie as tie
 abbrev entry : tie.After-after-entries → tie.Start
 entry c = c .before .before .before
 
-codes : (c : tie.After-after-entries) → Codes (now (entry c .args .chunk)) (c .after-entries .result) (entry c .args .count)
+codes : (c : tie.After-after-entries) → Inside (now (entry c .args .chunk)) (c .after-entries .result) (entry c .args .count)
 codes c = body-codes (entry c .pre .1) (c .before .find-any .ensures) (c .after-entries .ensures)
 
 cast-in-reach : tie.Need-cast-in-reach
-cast-in-reach c = omega (arith, codes (c .before) .narrow)
+cast-in-reach c = omega (arith, codes (c .before) .width)
 
 room : (c : tie.After-in-reach) → c .in-reach .result ≤ length (now (entry (c .before .before) .args .chunk))
 room c =

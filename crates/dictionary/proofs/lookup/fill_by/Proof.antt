@@ -28,34 +28,34 @@ abbrev μ-loop : tie.MeasureT-loop
 μ-loop chunk from n place count table₀ column₀ at₀ last₀ done₀ table column at last done = n - done
 
 -- the part of the table that a turn fills
-held : (c : tie.After-load-arg Inv-loop μ-loop) → length (take (c .before .lesser .result) (c .before .before .before .loop .table)) ≡ c .before .lesser .result
-held c = length-take-le (c .before .lesser .result) (c .before .before .before .loop .table) (omega (arith, c .before .lesser .ensures))
+held : (c : tie.After-load-arg Inv-loop μ-loop) → length (take (c .before .at-most .result) (c .before .before .before .loop .table)) ≡ c .before .at-most .result
+held c = length-take-le (c .before .at-most .result) (c .before .before .before .loop .table) (omega (arith, c .before .at-most .ensures))
 
-loaded : (c : tie.After-load Inv-loop μ-loop) → length (c .load .last .1 .1 .1 .1 .0) ≡ c .before .before .lesser .result
+loaded : (c : tie.After-load Inv-loop μ-loop) → length (c .load .last .1 .1 .1 .1 .0) ≡ c .before .before .at-most .result
 loaded c = c .load .kept .1 .1 .1 .1 .0 ∙ held (c .before)
 
 long : (c : tie.After-load Inv-loop μ-loop)
-    → length (c .load .last .1 .1 .1 .1 .0 ++ drop (c .before .before .lesser .result) (c .before .before .before .before .loop .table)) ≡ length (c .before .before .before .before .loop .table)
+    → length (c .load .last .1 .1 .1 .1 .0 ++ drop (c .before .before .at-most .result) (c .before .before .before .before .loop .table)) ≡ length (c .before .before .before .before .loop .table)
 long c =
     let part = c .load .last .1 .1 .1 .1 .0 in
     let table = c .before .before .before .before .loop .table in
-    let n = c .before .before .lesser .result in
-    omega (arith, length-append part (drop n table), length-drop n table, loaded c, c .before .before .lesser .ensures)
+    let n = c .before .before .at-most .result in
+    omega (arith, length-append part (drop n table), length-drop n table, loaded c, c .before .before .at-most .ensures)
 
 -- a turn has an entry at least
-some : (c : tie.After-load Inv-loop μ-loop) → 0 < c .before .before .lesser .result
+some : (c : tie.After-load Inv-loop μ-loop) → 0 < c .before .before .at-most .result
 some c =
-    let lesser = c .before .before in
-    omega (arith, lesser .lesser .ensures, lesser .before .loop-test .taken, lesser .before .before .loop .inv .0, lesser .before .before .before .before .pre .1)
+    let asked = c .before .before in
+    omega (arith, asked .at-most .ensures, asked .before .loop-test .taken, asked .before .before .loop .inv .0, asked .before .before .before .before .pre .1)
 
 loop-holds : tie.Need-loop-holds Inv-loop μ-loop
 loop-holds c = (refl, refl, filled-none _ _ (rw (length-packedValues _ _ _ _) (c .before .pre .2)))
 
 slice-reshare-prefix-look-up : tie.Need-slice-reshare-prefix-look-up Inv-loop μ-loop
-slice-reshare-prefix-look-up c = omega (arith, long (c .before), c .before .before .before .lesser .ensures)
+slice-reshare-prefix-look-up c = omega (arith, long (c .before), c .before .before .before .at-most .ensures)
 
 slice-aggregate-look-up : tie.Need-slice-aggregate-look-up Inv-loop μ-loop
-slice-aggregate-look-up c = sym (length-take-le _ _ (omega (arith, long (c .before .before), c .before .before .before .before .lesser .ensures)))
+slice-aggregate-look-up c = sym (length-take-le _ _ (omega (arith, long (c .before .before), c .before .before .before .before .at-most .ensures)))
 
 look-up-requires : tie.Need-look-up-requires Inv-loop μ-loop
 look-up-requires c κs =
@@ -68,33 +68,33 @@ sub-last c = omega (arith, some (c .before .before .before .before .before))
 
 mul-last : tie.Need-mul-last Inv-loop μ-loop
 mul-last c =
-    let lesser = c .before .before .before .before .before .before .before in
-    omega (arith, lesser .lesser .ensures, lesser .before .before .loop .inv .0)
+    let asked = c .before .before .before .before .before .before .before in
+    omega (arith, asked .at-most .ensures, asked .before .before .loop .inv .0)
 
 slice-copy-out-last : tie.Need-slice-copy-out-last Inv-loop μ-loop
 slice-copy-out-last c =
     let load = c .before .before .before .before .before in
-    omega (arith, long load, some load, load .before .before .lesser .ensures)
+    omega (arith, long load, some load, load .before .before .at-most .ensures)
 
 add-done : tie.Need-add-done Inv-loop μ-loop
 add-done c =
-    let lesser = c .before .before .before .before .before .before .before .before in
-    omega (arith, lesser .lesser .ensures, lesser .before .loop-test .taken)
+    let asked = c .before .before .before .before .before .before .before .before in
+    omega (arith, asked .at-most .ensures, asked .before .loop-test .taken)
 
 loop-less : tie.Need-loop-less Inv-loop μ-loop
 loop-less c =
     let load = c .before .before .before .before .before .before in
-    omega (arith, some load, load .before .before .lesser .ensures, load .before .before .before .loop-test .taken)
+    omega (arith, some load, load .before .before .at-most .ensures, load .before .before .before .loop-test .taken)
 
 loop-again : tie.Need-loop-again Inv-loop μ-loop
 loop-again c =
     let load = c .before .before .before .before .before .before in
-    let lesser = load .before .before in
-    let l = lesser .before .before .loop in
-    let start = lesser .before .before .before .before in
+    let asked = load .before .before in
+    let l = asked .before .before .loop in
+    let start = asked .before .before .before .before in
     let chunk = now (start .args .chunk) in
     let window = load .load .last .1 .1 .1 .1 .0 in
-    let n = lesser .lesser .result in
+    let n = asked .at-most .result in
     let wide : length (take n (l .table)) ≡ n = held (load .before) in
     let place = load .load .ensures .0 ∙ ap (afterUvarints chunk (l .at)) wide in
     let rest = drop n (l .table) in
@@ -104,7 +104,7 @@ loop-again c =
     let newest : toZ w64 (ofZ w64 (getD (window ++ rest) (n - 1) (pos 0))) ≡ getD window (n - 1) (pos 0)
     = toZ-ofZ (record { sfits = c .last .given }) ∙ List·getD-append window rest (pos 0) (n - 1) inside in
     let out = c .before .before .look-up .ensures ∙ ap (λ (t : List ℤ). sets (l .column) 0 (pickedAll (l .done) t codes (l .column))) (take-at window rest n (loaded load)) in
-    let more : l .done + n ≤ start .args .n = omega (arith, lesser .lesser .ensures, lesser .before .loop-test .taken) in
+    let more : l .done + n ≤ start .args .n = omega (arith, asked .at-most .ensures, asked .before .loop-test .taken) in
     (long load ∙ l .inv .0, c .before .before .look-up .kept .1 .1 .1 .1 .1 .0 ∙ l .inv .1, filled-more _ _ (l .inv .2) more (some load) place entries newest out)
 
 same-length : tie.Need-same-length Inv-loop μ-loop
@@ -125,9 +125,9 @@ fill-by-spec =
     loop-holds
     (λ c. search needs)
     (λ c κs. search needs)
-    (λ c. omega (arith, c .lesser .ensures))
+    (λ c. omega (arith, c .at-most .ensures))
     (λ c. sym (held c))
-    (λ c κs. omega (arith, held c, c .before .before .before .before .before .pre .0, c .before .lesser .ensures, c .before .before .loop-test .taken))
+    (λ c κs. omega (arith, held c, c .before .before .before .before .before .pre .0, c .before .at-most .ensures, c .before .before .loop-test .taken))
     slice-reshare-prefix-look-up
     slice-aggregate-look-up
     look-up-requires

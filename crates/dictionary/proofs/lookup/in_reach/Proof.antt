@@ -12,7 +12,7 @@ returns : tie.Need-returns
 returns c = omega (arith, c .before .fits .n .fits, pow-mono (c .if1 .taken))
 
 returns-2 : tie.Need-returns-2
-returns-2 c = c .lesser .ensures ∙ ap (min (c .before .before .args .n)) (one-shl (c .before .before .args .w) (c .before .if1 .left))
+returns-2 c = c .at-most .ensures ∙ ap (min (c .before .before .args .n)) (one-shl (c .before .before .args .w) (c .before .if1 .left))
 
 pub in-reach-spec : {M : Type 1} → statement M
 in-reach-spec = tie.close (tie.spec returns (λ c. search needs) (λ c κs. search needs) returns-2)

@@ -2,11 +2,13 @@
 use mathlib.Core.Path.{_≡_, refl, sym, _∙_}
 use Prim.Native.Nat.{_+_, _-_}
 use native.Mathlib.Omega.{arith}
-use lib.ListN.{length, take}
+use lib.ListN.{length, take, getD}
 use lib.Seq.{length-take-le}
 use denote.Ref.{now}
 use borrow.Author.Needs.{needs}
+use Rattle.format.specs.Packing.{packedLen}
 use Rattle.format.proofs.numbers.All.{Below, all-by}
+use Rattle.codec.proofs.Blocks.{packed-counted}
 use Rattle.dictionary.proofs.Walks.{Looking, walk-none, walk-room, looking-none, looking-more, looking-done}
 use Rattle.dictionary.proofs.lookup.look_up.Statement.{statement}
 use Rattle.dictionary.proofs.lookup.look_up.Tie as tie
@@ -40,22 +42,24 @@ pick-block-requires c κs =
     let g = turn u .before .before .loop .inv .1 in
     omega (arith, front u, g .room, g .walk .passed, g .storing .long, turn u .block-len .ensures)
 
-bytes-for-requires : tie.Need-bytes-for-requires Inv-loop μ-loop
-bytes-for-requires c κs =
-    let t = turn (c .before .before .before .before .before) in
-    (omega (arith, t .block-len .ensures), t .before .before .loop .inv .1 .walk .narrow)
+-- the block's bytes
+counted : (c : tie.After-packed-bytes Inv-loop μ-loop)
+    → let t = turn (c .before .before .before .before .before .before) in c .packed-bytes .result ≡ packedLen (t .block-len .result) (getD (now (t .before .before .before .before .before .args .chunk)) (t .before .before .before .before .before .args .place) 0)
+counted c =
+    let t = turn (c .before .before .before .before .before .before) in
+    c .packed-bytes .ensures ∙ packed-counted _ _ (omega (arith, t .block-len .ensures)) (t .before .before .loop .inv .1 .walk .narrow)
 
 add-at-2 : tie.Need-add-at-2 Inv-loop μ-loop
 add-at-2 c =
     let t = turn (c .before .before .before .before .before .before) in
-    omega (arith, walk-room _ _ (t .before .before .loop .inv .1 .walk) (t .block-len .ensures), c .bytes-for .ensures)
+    omega (arith, walk-room _ _ (t .before .before .loop .inv .1 .walk) (t .block-len .ensures), counted c)
 
 loop-again : tie.Need-loop-again Inv-loop μ-loop
 loop-again c =
     let u = c .before .before .before .before .before .before in
     let t = turn u in
     let l = t .before .before .loop in
-    rw (c .bytes-for .ensures)
+    rw (counted c)
     (long u, looking-more (l .inv .1) (t .block-len .ensures) (l .block) (omega (arith, l .inv .0, t .block-len .ensures)) (u .unpack .ensures .1) (c .before .before .pick-block .ensures))
 
 same-length : tie.Need-same-length Inv-loop μ-loop
@@ -84,7 +88,7 @@ look-up-spec =
     (λ c. omega (arith, long (c .before), turn (c .before) .block-len .ensures))
     (λ c. sym (front (c .before .before)))
     pick-block-requires
-    bytes-for-requires
+    (λ c κs. search needs)
     add-at-2
     (λ c. search needs)
     (λ c. search needs)

@@ -3,14 +3,15 @@ use mathlib.Core.Path.{_≡_, refl, sym, ap, _∙_}
 use Prim.Native.Nat.{_+_, _-_}
 use native.Mathlib.Nat.{sub-zero}
 use native.Mathlib.Omega.{arith}
-use lib.ListN.{length, take}
+use lib.ListN.{length, take, getD}
 use lib.Seq.{length-take-le}
 use denote.Ref.{now}
 use borrow.Author.Needs.{needs}
-use Rattle.format.specs.Packing.{packedValues}
+use Rattle.format.specs.Packing.{packedLen, packedValues}
 use Rattle.format.specs.Dictionary.{allBelow}
 use Rattle.format.proofs.numbers.All.{Below, all-by}
 use Rattle.codec.proofs.Headers.{not-true, not-false}
+use Rattle.codec.proofs.Blocks.{packed-counted}
 use Rattle.dictionary.proofs.Walks.{Walk, walk-none, walk-room, walk-more, walk-block, below-more, below-no, below-all}
 use Rattle.dictionary.proofs.reading.codes_below.Statement.{statement}
 use Rattle.dictionary.proofs.reading.codes_below.Tie as tie
@@ -48,15 +49,17 @@ returns c =
     let over = sym (ap (allBelow _) codes) ∙ sym (c .before .block-below .ensures) ∙ not-true (c .if1 .taken) in
     sym (sym (l .inv .2) ∙ below-no _ _ (l .inv .1) (t .block-len .ensures) _ over)
 
-bytes-for-requires : tie.Need-bytes-for-requires Inv-loop μ-loop
-bytes-for-requires c κs =
-    let t = turn (c .before .before .before .before) in
-    (omega (arith, t .block-len .ensures), t .before .before .loop .inv .1 .narrow)
+-- the block's bytes
+counted : (c : tie.After-packed-bytes Inv-loop μ-loop)
+    → let t = turn (c .before .before .before .before .before) in c .packed-bytes .result ≡ packedLen (t .block-len .result) (getD (now (t .before .before .before .before .before .args .chunk)) (t .before .before .before .before .before .args .place) 0)
+counted c =
+    let t = turn (c .before .before .before .before .before) in
+    c .packed-bytes .ensures ∙ packed-counted _ _ (omega (arith, t .block-len .ensures)) (t .before .before .loop .inv .1 .narrow)
 
 add-at-2 : tie.Need-add-at-2 Inv-loop μ-loop
 add-at-2 c =
     let t = turn (c .before .before .before .before .before) in
-    omega (arith, walk-room _ _ (t .before .before .loop .inv .1) (t .block-len .ensures), c .bytes-for .ensures)
+    omega (arith, walk-room _ _ (t .before .before .loop .inv .1) (t .block-len .ensures), counted c)
 
 loop-again : tie.Need-loop-again Inv-loop μ-loop
 loop-again c =
@@ -65,7 +68,7 @@ loop-again c =
     let l = t .before .before .loop in
     let codes = walk-block _ _ (l .inv .1) (t .block-len .ensures) (l .block) (omega (arith, l .inv .0, t .block-len .ensures)) (u .unpack .ensures .1) in
     let under = sym (ap (allBelow _) codes) ∙ sym (c .before .before .block-below .ensures) ∙ not-false (c .before .if1 .left) in
-    rw (c .bytes-for .ensures)
+    rw (counted c)
     (long u, walk-more _ _ (l .inv .1) (t .block-len .ensures), below-more _ _ (l .inv .1) (t .block-len .ensures) _ under ∙ l .inv .2)
 
 returns-2 : tie.Need-returns-2 Inv-loop μ-loop
@@ -92,7 +95,7 @@ codes-below-spec =
     (λ c. sym (front (c .before .before)))
     (λ c κs. search needs)
     returns
-    bytes-for-requires
+    (λ c κs. search needs)
     add-at-2
     (λ c. search needs)
     (λ c. search needs)

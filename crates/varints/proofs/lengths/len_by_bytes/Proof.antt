@@ -2,7 +2,6 @@
 use mathlib.Core.Path.{_≡_, sym, ap, _∙_}
 use Prim.Native.Nat.{ℕ, _+_, _-_, _≤_}
 use native.Mathlib.Omega.{arith}
-use lib.ListN.{length}
 use borrow.Author.Needs.{needs}
 use Rattle.format.specs.Varint.{uvarintLen}
 use Rattle.format.proofs.numbers.Widths.{uvarintLen-pos, uvarintLen-le}
