@@ -1,6 +1,6 @@
 -- Storing at a place: what a call left in the part of the output from a place on, seen from the whole (`placed`); and where there is room, the bytes stand there
 -- (`uvarint-laid`, `packed-laid`, `bytes-laid`), which is what a codec has from the calls of `place`; so a codec that stores part by part goes on after them
--- (`storing-uvarint`, `storing-bytes`, `storing-packed`).
+-- (`storing-uvarint`, `storing-packed`).
 use mathlib.Core.Path.{_≡_, refl, sym, ap, _∙_}
 use mathlib.Core.Bool.{Bool, true, false}
 use mathlib.Core.List.{List, [], _∷_, _++_, append-assoc}
@@ -138,12 +138,6 @@ module _ {whole l : List ℕ} {from : ℕ} {rest out : List ℕ} {at : ℕ} (s :
   storing-uvarint x later e put =
       let fits : at + uvarintLen x ≤ length out = omega (arith, storing-room s room, ap length e, length-append (uvarintBytes x) later, length-uvarintBytes x) in
       laid-more (uvarintWriteOutcome x (length out - at)) (uvarintBytes x) later e (uvarint-laid at out x fits) put
-
-  pub storing-bytes : (bytes later : List ℕ) {end : ℕ} {next : List ℕ} → rest ≡ bytes ++ later
-      → (end ≡ laidEnd (fitting bytes (length out - at)) at) × (next ≡ laid (fitting bytes (length out - at)) at out) → Storing whole l from later next end
-  storing-bytes bytes later e put =
-      let fits : at + length bytes ≤ length out = omega (arith, storing-room s room, ap length e, length-append bytes later) in
-      laid-more (fitting bytes (length out - at)) bytes later e (bytes-laid at out bytes fits) put
 
   pub storing-packed : (values : List ℕ) (w : ℕ) (later : List ℕ) {end : ℕ} {next : List ℕ} → rest ≡ packed w values ++ later → length values ≤ maxChunkElements → w ≤ 64
       → (end ≡ laidEnd (packOutcome values w (length out - at)) at) × (next ≡ laid (packOutcome values w (length out - at)) at out) → Storing whole l from later next end

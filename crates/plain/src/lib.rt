@@ -10,13 +10,13 @@ ghost use Rattle.format.specs.Parts.{extentAnswerOf};
 ghost use Rattle.format.specs.Plain.{plainBody, plainValues, validatePlain};
 ghost use Rattle.format.specs.Read.{readAnswer, readColumn};
 ghost use Rattle.format.specs.Write.{writeAnswer, writeOutput};
+use crate::words::put_word;
 use crate::words::word;
 use codec::body::settle;
 use codec::header::header_len;
 use codec::header::put_header;
 use codec::header::read_header;
 use codec::header::refusal_of_header;
-use codec::place::put_key;
 use format::Answer;
 use format::Encoding;
 use format::ExtentAnswer;
@@ -39,9 +39,8 @@ fn store(column: &[i64], out: &mut [u8], at: usize)
     requires { ⌜ at + length (plainBody (now column)) ≤ length (now out) ⌝ }
     ensures { λ _. ⌜ now (out .exit) ≡ sets (now (out .entry)) at (plainBody (now (column .entry))) ⌝ }
 {
-    let mut next = at;
     for i in 0..column.len() {
-        next = put_key(column[i], out, next);
+        put_word(out, at + 8 * i, number::bits_of(column[i]));
     }
 }
 
