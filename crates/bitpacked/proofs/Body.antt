@@ -20,7 +20,7 @@ use Rattle.format.specs.declared.Encoding.the-variants.{BitPacked}
 use Rattle.format.specs.declared.Padded.{Padded}
 use Rattle.format.proofs.codecs.Outcome.{both-passed}
 use Rattle.format.proofs.lengths.Parts.{length-packedBody}
-use Rattle.codec.specs.Packed.{Inside}
+use Rattle.places.specs.Packed.{Inside}
 use Rattle.codec.proofs.Settling.{passed-inside}
 
 -- ---- writing

@@ -4,7 +4,6 @@ ghost use lib.ListN.{length};
 ghost use Rattle.format.specs.Header.{named};
 ghost use Rattle.format.specs.Read.{readAnswer, readColumn};
 ghost use Rattle.format.specs.Write.{writeAnswer, writeOutput};
-use codec::block::packed_bytes;
 use codec::body::settle;
 use codec::body::settle_packed;
 use codec::header::header_len;
@@ -17,6 +16,7 @@ use format::HeaderAnswer;
 use format::limits::MAX_CHUNK_ELEMENTS;
 use format::refusal::BUFFER_TOO_SHORT;
 use format::refusal::COLUMN_ABOVE_LIMIT;
+use places::block::packed_bytes;
 
 pub(crate) mod reading;
 pub(crate) mod writing;

@@ -6,9 +6,9 @@ ghost use lib.ListN.{length};
 ghost use lib.Seq.{sets};
 ghost use Rattle.format.specs.Keys.{unzigzag};
 ghost use Rattle.format.specs.BitPacked.{bitPackedValues};
-ghost use Rattle.codec.specs.Packed.{Inside};
-use codec::block::block_len;
-use codec::block::packed_bytes;
+ghost use Rattle.places.specs.Packed.{Inside};
+use places::block::block_len;
+use places::block::packed_bytes;
 
 // The keys whose ZigZags a block has, stored in the column from `from` on.
 fn unzigzags(block: &[u64], column: &mut [i64], from: usize)

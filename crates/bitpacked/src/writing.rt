@@ -8,8 +8,8 @@ ghost use Rattle.format.specs.Keys.{zigzag};
 ghost use Rattle.format.specs.Packing.{packedLen, packed};
 ghost use Rattle.format.specs.Width.{width};
 ghost use Rattle.format.specs.Folds.{largest};
-use codec::block::block_len;
-use codec::place::put_packed;
+use places::block::block_len;
+use places::put_packed;
 
 // The width of the largest ZigZag: that of all ZigZags' bits together, which are gathered faster than the largest is found.
 pub(crate) fn widest(column: &[i64]) -> u32

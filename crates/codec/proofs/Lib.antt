@@ -1,12 +1,6 @@
 pub mod Numbers
-pub mod Blocks
 pub mod Settling
-pub mod Placing
 pub mod Rows
 pub mod Headers
 pub mod Writing
 pub mod Reading
-pub mod Mapped
-pub mod Packing
-pub mod Filling
-pub mod Keys

@@ -18,9 +18,9 @@ use Rattle.format.specs.Standalone.{packedLenAnswer}
 use Rattle.format.specs.declared.Padded.{Padded}
 use Rattle.format.specs.declared.Padded.the-variants.{Nowhere, At}
 use Rattle.format.proofs.codecs.Outcome.{both-passed, check-passed}
-use Rattle.codec.specs.Packed.{Inside}
+use Rattle.places.specs.Packed.{Inside}
 use Rattle.codec.specs.Refusals.{extent, roomOutcome}
-use Rattle.codec.proofs.Blocks.{packed-counted}
+use Rattle.places.proofs.Blocks.{packed-counted}
 
 module _ (s : List ℕ) (count room end : ℕ) where
   pub settled-loose : {strict : Bool} (padded : Padded) → strict ≡ false → settled strict s count room (ok (extent end padded)) ≡ roomOutcome count room

@@ -21,7 +21,7 @@ use Rattle.format.specs.declared.Encoding.{Encoding}
 use Rattle.format.proofs.codecs.Encodings.{encodingOf-id, id-within}
 use Rattle.format.proofs.codecs.Header.{length-headerBytes}
 use Rattle.format.proofs.numbers.Stores.{sets-append, sets-stored}
-use Rattle.codec.specs.Places.{fitting, laid, laidEnd}
+use Rattle.places.specs.Places.{fitting, laid, laidEnd}
 
 -- how long a chunk is
 pub length-chunk : (e : Encoding) (column : List ℤ) → length (chunkOf e column) ≡ headerLen (length column) + length (bodyOf e column)

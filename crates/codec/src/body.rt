@@ -6,11 +6,11 @@ ghost use Rattle.format.specs.Answers.{answerOf};
 ghost use Rattle.format.specs.Varint.{firstPadded, validateUvarints};
 ghost use Rattle.format.specs.Parts.{extentAnswerOf, packedExtent, settled};
 ghost use Rattle.codec.specs.Refusals.{refusalOfUvarint, extent, outcomeOf, roomOutcome};
-use crate::block::packed_bytes;
 use format::Answer;
 use format::ExtentAnswer;
 use format::Padded;
 use format::UvarintAnswer;
+use places::block::packed_bytes;
 
 // The first padded varint, when the one at `at` is read too.
 pub fn first_padded(padded: Padded, at: usize, unpadded: bool) -> Padded

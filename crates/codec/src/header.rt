@@ -5,12 +5,11 @@ ghost use Rattle.format.specs.Encodings.{idOf};
 ghost use Rattle.format.specs.Encodings as Encodings;
 ghost use Rattle.format.specs.Header.{headerBytes, headerLen};
 ghost use Rattle.format.specs.Parts.{peekAnswer, headerAnswer, headerAnswerOf};
-ghost use Rattle.codec.specs.Places.{fitting, laid, laidEnd};
+ghost use Rattle.places.specs.Places.{fitting, laid, laidEnd};
 ghost use Rattle.codec.specs.Refusals.{refusalOfCount, refusalOfHeader, countOutcome};
 use crate::body::first_padded;
 use crate::encoding_id;
 use crate::encoding_of;
-use crate::place::put_uvarint;
 use format::Answer;
 use format::Encoding;
 use format::EncodingAnswer;
@@ -19,6 +18,7 @@ use format::Padded;
 use format::UvarintAnswer;
 use format::limits::CODEC_VERSION;
 use format::limits::MAX_CHUNK_ELEMENTS;
+use places::put_uvarint;
 
 // How many bytes a header has.
 pub fn header_len(count: usize) -> usize

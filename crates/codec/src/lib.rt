@@ -1,16 +1,13 @@
-// What the seven codecs share (the Rust's codec.rs): encodings and their numbers, the header, the questions that more than one
-// body is asked, and storing at a place of the output.
+// What the seven codecs share (the Rust's codec.rs): encodings and their numbers, the header, and the questions that more than one
+// body is asked.
 ghost use mathlib.Core.Path.{_≡_};
 ghost use Rattle.format.specs.Encodings.{idOf, decodeCostRank};
 ghost use Rattle.format.specs.Parts.{encodingAnswer};
 use format::Encoding;
 use format::EncodingAnswer;
 
-pub mod block;
 pub mod body;
 pub mod header;
-pub mod load;
-pub mod place;
 
 // The id that a chunk's first byte is.
 pub fn encoding_id(encoding: Encoding) -> u32

@@ -20,7 +20,7 @@ use Rattle.format.proofs.numbers.Uvarints.{length-uvarintBytes}
 use Rattle.format.proofs.numbers.Widths.{width-le, uvarintLen-le}
 use Rattle.format.proofs.numbers.Packing.{packedLen-most}
 use Rattle.format.proofs.lengths.DeltaLength.{blockLen, blocksLen, length-block, length-blocks}
-use Rattle.codec.proofs.Packing.{cut}
+use Rattle.places.proofs.Packing.{cut}
 use Rattle.delta.specs.Written.{blocksOf}
 use Rattle.delta.proofs.There.{blockCount-more, blockCount-none}
 use Rattle.delta.proofs.Windows.{length-deltas, window-deltas}

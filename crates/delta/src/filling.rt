@@ -7,13 +7,13 @@ ghost use Rattle.format.specs.Answers.{stored};
 ghost use Rattle.format.specs.Delta.{blockCount, blockDeltas, deltaValues};
 ghost use Rattle.delta.specs.Summed.{fromLeast, summed};
 ghost use Rattle.delta.specs.There.{BlocksThere, BodyThere};
-use codec::block::at_most;
-use codec::block::block_len;
-use codec::block::packed_bytes;
 use format::UvarintAnswer;
 use format::VarintAnswer;
 use number::of_bits;
 use number::wrapping_add;
+use places::block::at_most;
+use places::block::block_len;
+use places::block::packed_bytes;
 
 // The values behind the one at `last`, by the least delta and the offsets from it: every sum wraps.
 fn add_offsets(offsets: &[u64], least: i64, column: &mut [i64], last: usize)

@@ -5,7 +5,6 @@ ghost use Rattle.format.specs.Encodings.{maxChunkElements};
 ghost use Rattle.format.specs.Parts.{extentAnswerOf};
 ghost use Rattle.format.specs.Delta.{blockCount, validateBlocks, validateDelta};
 ghost use Rattle.delta.specs.There.{blockExtent};
-use codec::block::at_most;
 use codec::body::first_padded;
 use codec::body::refusal_of_uvarint;
 use codec::body::settle_packed;
@@ -14,6 +13,7 @@ use format::Padded;
 use format::UvarintAnswer;
 use format::limits::MAX_DELTA_BLOCK_SIZE;
 use format::refusal::BLOCK_SIZE_OUT_OF_RANGE;
+use places::block::at_most;
 
 // A block of n deltas: the varint of its least delta, its width byte, its packed offsets.
 fn settle_block(chunk: &[u8], at: usize, n: usize, padded: Padded) -> ExtentAnswer

@@ -11,14 +11,14 @@ ghost use Rattle.format.specs.Encodings.{maxChunkElements};
 ghost use Rattle.format.specs.Folds.{least, greatest, deltas};
 ghost use Rattle.format.specs.Delta.{blockBytes, deltaBody};
 ghost use Rattle.delta.specs.Written.{blocksOf};
-use codec::block::at_most;
-use codec::block::packed_bytes;
-use codec::place::put_packed;
-use codec::place::put_uvarint;
-use codec::place::put_varint;
 use format::limits::DELTA_BLOCK_SIZE;
 use number::bits_of;
 use number::wrapping_sub;
+use places::block::at_most;
+use places::block::packed_bytes;
+use places::put_packed;
+use places::put_uvarint;
+use places::put_varint;
 
 // The least and the greatest of some deltas.
 struct Bounds {

@@ -17,8 +17,8 @@ use Rattle.format.proofs.numbers.Uvarints.{length-uvarintBytes}
 use Rattle.format.proofs.numbers.Packing.{length-packed, packedLen-most}
 use Rattle.format.proofs.numbers.Widths.{uvarintLen-le}
 use Rattle.format.proofs.numbers.Stores.{sets-append}
-use Rattle.codec.specs.Places.{laid, laidEnd}
-use Rattle.codec.proofs.Placing.{uvarint-laid}
+use Rattle.places.specs.Places.{laid, laidEnd}
+use Rattle.places.proofs.Placing.{uvarint-laid}
 use Rattle.dictionary.specs.Body.{bodyLen}
 
 -- at most ten bytes for every varint, and eight for every code

@@ -17,8 +17,8 @@ use Rattle.format.proofs.numbers.Keys.{residue-asSigned, gap-lt}
 use Rattle.format.proofs.numbers.Uvarints.{length-uvarintBytes}
 use Rattle.format.proofs.numbers.Widths.{uvarintLen-le}
 use Rattle.format.proofs.numbers.Stores.{sets-append, Storing, storing-none, storing-part, storing-room, storing-done, storing-end}
-use Rattle.codec.specs.Places.{laid, laidEnd}
-use Rattle.codec.proofs.Placing.{uvarint-laid}
+use Rattle.places.specs.Places.{laid, laidEnd}
+use Rattle.places.proofs.Placing.{uvarint-laid}
 
 -- ---- the bytes of the entries
 

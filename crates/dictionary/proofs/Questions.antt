@@ -23,7 +23,7 @@ use Rattle.format.proofs.codecs.Outcome.{both-passed, check-passed}
 use Rattle.varint.proofs.Answers.{answer-read, answer-malformed}
 use Rattle.codec.specs.Refusals.{extent, outcomeOf}
 use Rattle.codec.proofs.Reading.{outcome-back}
-use Rattle.codec.specs.Packed.{Inside}
+use Rattle.places.specs.Packed.{Inside}
 use Rattle.codec.proofs.Settling.{passed-inside}
 use Rattle.dictionary.specs.Reading.{settledCodes, ReadBody}
 

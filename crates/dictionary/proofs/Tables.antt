@@ -21,7 +21,7 @@ use Rattle.format.proofs.numbers.Digits.{below-digits}
 use Rattle.format.proofs.numbers.Stores.{sets-stored}
 use Rattle.varint.specs.Finding.{foundAt}
 use Rattle.varint.specs.declared.find.Found.{Found}
-use Rattle.codec.specs.Packed.{Inside}
+use Rattle.places.specs.Packed.{Inside}
 use Rattle.dictionary.specs.Reading.{entriesAt, pickedAll, ReadBody}
 use Rattle.dictionary.proofs.Codes.{below-min, length-picked, picked-tables, picked-none, picked-front, picked-all}
 use Rattle.dictionary.proofs.ReadEntries.{lastOr, last-append, last-at, length-values, values-add, after-add, length-entries, entries-append, entries-are}

@@ -20,7 +20,7 @@ use Rattle.format.proofs.numbers.Stores.{Storing, storing-none, storing-part, s
 use Rattle.format.proofs.codecs.Counts.{length-packedValues}
 use Rattle.bitpack.proofs.Blocks.{values-block, unpack-front}
 use Rattle.bitpack.proofs.Parts.{part-rest}
-use Rattle.codec.specs.Packed.{Inside}
+use Rattle.places.specs.Packed.{Inside}
 use Rattle.dictionary.specs.Reading.{pickedAll}
 use Rattle.dictionary.proofs.Codes.{below-append, length-picked, picked-append}
 

@@ -11,7 +11,7 @@ use Rattle.format.specs.Keys.{wrappingAdd, unzigzag}
 use Rattle.format.specs.Varint.{Extent, uvarintAt, afterUvarints}
 use Rattle.format.specs.Packing.{widthAt, packedEnd, packedValues}
 use Rattle.format.specs.Dictionary.{allBelow}
-use Rattle.codec.specs.Packed.{Inside}
+use Rattle.places.specs.Packed.{Inside}
 use Rattle.format.specs.declared.Padded.{Padded}
 
 -- the questions after the entries: 10, 12, 13, 18

@@ -11,12 +11,12 @@ ghost use Rattle.format.specs.Answers.{stored};
 ghost use Rattle.format.specs.Varint.{uvarintValues, afterUvarints};
 ghost use Rattle.format.specs.Packing.{packedValues};
 ghost use Rattle.format.specs.Dictionary.{dictionaryValues};
-ghost use Rattle.codec.specs.Packed.{Inside};
+ghost use Rattle.places.specs.Packed.{Inside};
 ghost use Rattle.dictionary.specs.Reading.{entryAt, entriesAt, picked, pickedAll, ReadBody};
-use codec::block::at_most;
-use codec::block::block_len;
-use codec::block::packed_bytes;
 use format::limits::MAX_DICTIONARY_CARDINALITY;
+use places::block::at_most;
+use places::block::block_len;
+use places::block::packed_bytes;
 use varint::find::find_any;
 
 // Entry i: the first by itself, any other by its gap from the last.

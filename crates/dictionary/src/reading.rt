@@ -6,10 +6,8 @@ ghost use Rattle.format.specs.Encodings.{maxChunkElements};
 ghost use Rattle.format.specs.Packing.{packedValues};
 ghost use Rattle.format.specs.Dictionary.{validateDictionary, allBelow};
 ghost use Rattle.format.specs.Parts.{extentAnswerOf};
-ghost use Rattle.codec.specs.Packed.{Inside};
+ghost use Rattle.places.specs.Packed.{Inside};
 ghost use Rattle.dictionary.specs.Reading.{settledCodes};
-use codec::block::block_len;
-use codec::block::packed_bytes;
 use codec::body::first_padded;
 use codec::body::refusal_of_uvarint;
 use codec::body::settle_packed;
@@ -17,6 +15,8 @@ use codec::body::settle_uvarints;
 use format::ExtentAnswer;
 use format::Padded;
 use format::UvarintAnswer;
+use places::block::block_len;
+use places::block::packed_bytes;
 
 // Is every code of a block below the number of entries?
 fn block_below(codes: &[u64], entries: u64) -> bool

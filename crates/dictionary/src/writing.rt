@@ -12,10 +12,10 @@ ghost use Rattle.format.specs.Dictionary.{entryBytes, codeOf, codeWidth, dictio
 ghost use Rattle.format.specs.Estimates.{entriesLen};
 ghost use Rattle.format.proofs.numbers.Distinct.{Rising};
 ghost use Rattle.dictionary.specs.Body.{bodyLen};
-use codec::place::put_packed;
-use codec::place::put_uvarint;
-use codec::place::put_varint;
 use distinct::GUESSES;
+use places::put_packed;
+use places::put_uvarint;
+use places::put_varint;
 
 // How far an entry lies above the one before it: it may be any number of 64 bits.
 fn gap_after(last: i64, entry: i64) -> u64

@@ -25,9 +25,9 @@ use Rattle.format.proofs.codecs.Outcome.{both-passed, check-passed}
 use Rattle.format.proofs.lengths.Parts.{length-packedBody}
 use Rattle.format.proofs.numbers.Keys.{length-keyBytes}
 use Rattle.format.proofs.numbers.Stores.{sets-append}
-use Rattle.codec.specs.Places.{fitting, laid, laidEnd}
-use Rattle.codec.proofs.Placing.{bytes-laid}
-use Rattle.codec.specs.Packed.{Inside}
+use Rattle.places.specs.Places.{fitting, laid, laidEnd}
+use Rattle.places.proofs.Placing.{bytes-laid}
+use Rattle.places.specs.Packed.{Inside}
 use Rattle.codec.proofs.Settling.{passed-inside}
 use Rattle.frame.specs.declared.writing.Fit.{Fit}
 use Rattle.frame.specs.Fit.{Fitted}

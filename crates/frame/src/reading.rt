@@ -9,14 +9,14 @@ ghost use Rattle.format.specs.Encodings.{maxChunkElements};
 ghost use Rattle.format.specs.Keys.{wrappingAdd};
 ghost use Rattle.format.specs.Frame.{validateFrame, frameValues};
 ghost use Rattle.format.specs.Parts.{extentAnswerOf};
-ghost use Rattle.codec.specs.Packed.{Inside};
-use codec::block::block_len;
-use codec::block::packed_bytes;
+ghost use Rattle.places.specs.Packed.{Inside};
 use codec::body::settle_packed;
-use codec::load::key_at;
 use format::ExtentAnswer;
 use format::Padded;
 use format::refusal::FRAME_CUT;
+use places::block::block_len;
+use places::block::packed_bytes;
+use places::load::key_at;
 
 // The questions of the body: the least value and the width byte there? Then those of a packed body.
 pub(crate) fn settle_body(chunk: &[u8], start: usize, count: usize, padded: Padded) -> ExtentAnswer

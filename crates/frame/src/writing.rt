@@ -7,9 +7,9 @@ ghost use lib.Seq.{sets};
 ghost use Rattle.format.specs.Keys.{gap, keyBytes};
 ghost use Rattle.format.specs.Packing.{packedLen, packed};
 ghost use Rattle.frame.specs.Fit.{Fitted};
-use codec::block::block_len;
-use codec::place::put_key;
-use codec::place::put_packed;
+use places::block::block_len;
+use places::put_key;
+use places::put_packed;
 
 // The least value, and the width of the largest difference from it.
 pub(crate) struct Fit {

@@ -28,7 +28,7 @@ use Rattle.format.specs.declared.Padded.{Padded}
 use Rattle.format.proofs.codecs.Outcome.{both-passed, check-passed}
 use Rattle.format.proofs.lengths.Parts.{length-plainBody}
 use Rattle.format.proofs.numbers.Widths.{uvarintLen-le}
-use Rattle.codec.specs.Places.{fitting, laid, laidEnd}
+use Rattle.places.specs.Places.{fitting, laid, laidEnd}
 use Rattle.codec.specs.Refusals.{outcomeOf}
 use Rattle.codec.proofs.Reading.{read-start, read-answer, read-untouched, read-filled, read-count, read-room, read-valid}
 use Rattle.codec.proofs.Writing.{Written, body-room, chunk-stored, write-short, write-done}

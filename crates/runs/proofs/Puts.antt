@@ -14,7 +14,7 @@ use Rattle.format.specs.Keys.{zigzag}
 use Rattle.format.specs.Varint.{uvarintBytes, varintBytes}
 use Rattle.format.specs.Runs.{Run, runs, runBytes, runBody}
 use Rattle.format.proofs.numbers.Stores.{Storing, storing-none, storing-room, storing-done}
-use Rattle.codec.proofs.Placing.{PutUvarint, storing-uvarint}
+use Rattle.places.proofs.Placing.{PutUvarint, storing-uvarint}
 use Rattle.runs.specs.RunAt.{runOf, RunAt}
 
 -- ---- the runs

@@ -8,8 +8,8 @@ ghost use Rattle.format.specs.Varint.{uvarintLen, varintLen};
 ghost use Rattle.format.specs.Runs.{runs, runBytes, runBody};
 ghost use Rattle.runs.specs.RunAt.{RunAt, Running, sameKey, sameFrom};
 ghost use Rattle.runs.specs.Measured.{measured};
-use codec::place::put_uvarint;
-use codec::place::put_varint;
+use places::put_uvarint;
+use places::put_varint;
 
 // Whether the value at `at` is the run's, which begins at `start`.
 fn same_key(column: &[i64], start: usize, at: usize) -> bool

@@ -24,7 +24,7 @@ use Rattle.format.specs.declared.HeaderAnswer.{HeaderAnswer}
 use Rattle.format.specs.declared.HeaderAnswer.the-variants.{Found}
 use Rattle.format.specs.declared.Padded.{Padded}
 use Rattle.format.proofs.codecs.Header.{length-headerBytes}
-use Rattle.codec.specs.Places.{fitting, laid, laidEnd}
+use Rattle.places.specs.Places.{fitting, laid, laidEnd}
 use Rattle.codec.specs.Refusals.{outcomeOf}
 use Rattle.keys.specs.Rows.{filledFrom}
 use Rattle.keys.proofs.Bodies.{all-alone}

@@ -11,7 +11,7 @@ use Rattle.format.specs.Varint.{varintLen, varintBytes}
 use Rattle.format.specs.VarintBody.{varintBody}
 use Rattle.format.proofs.numbers.Keys.{length-varintBytes}
 use Rattle.format.proofs.numbers.Stores.{Storing}
-use Rattle.codec.proofs.Placing.{PutUvarint, storing-uvarint}
+use Rattle.places.proofs.Placing.{PutUvarint, storing-uvarint}
 
 -- ---- a column, value by value
 

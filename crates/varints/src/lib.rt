@@ -20,7 +20,6 @@ use codec::body::settle_uvarints;
 use codec::header::put_header;
 use codec::header::read_header;
 use codec::header::refusal_of_header;
-use codec::place::put_varint;
 use format::Answer;
 use format::Encoding;
 use format::ExtentAnswer;
@@ -28,6 +27,7 @@ use format::HeaderAnswer;
 use format::Padded;
 use format::limits::MAX_CHUNK_ELEMENTS;
 use keys::fill_keys;
+use places::put_varint;
 
 pub(crate) mod lengths;
 pub(crate) mod scan;

@@ -13,7 +13,7 @@ use Rattle.format.specs.declared.Encoding.the-variants.{FrameOfReference}
 use Rattle.format.proofs.lengths.Limits.{headerLen-most}
 use Rattle.format.proofs.numbers.Packing.{packedLen-most}
 use Rattle.format.proofs.numbers.Widths.{width-le}
-use Rattle.codec.proofs.Blocks.{packed-counted}
+use Rattle.places.proofs.Blocks.{packed-counted}
 use Rattle.codec.proofs.Writing.{body-room, chunk-stored, write-many, write-short, write-done}
 use Rattle.number.proofs.Signed.{held}
 use Rattle.frame.proofs.Body.{body-length, body-is}

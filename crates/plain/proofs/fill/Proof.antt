@@ -10,7 +10,7 @@ use Rattle.format.specs.Plain.{plainValues}
 use Rattle.format.proofs.codecs.Counts.{length-plainValues}
 use Rattle.format.proofs.numbers.All.{all-by}
 use Rattle.format.proofs.numbers.Stores.{Storing, storing-none, storing-done, sets-stored}
-use Rattle.codec.proofs.Keys.{key-loaded}
+use Rattle.places.proofs.Keys.{key-loaded}
 use Rattle.plain.proofs.Turns.{values-end, value-more}
 use Rattle.plain.proofs.fill.Statement.{statement}
 use Rattle.plain.proofs.fill.Tie as tie

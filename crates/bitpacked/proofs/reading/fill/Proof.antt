@@ -10,8 +10,8 @@ use Rattle.format.specs.Packing.{packedLen}
 use Rattle.format.specs.Keys.{unzigzag}
 use Rattle.format.specs.BitPacked.{bitPackedValues}
 use Rattle.format.proofs.numbers.All.{Below, all-by}
-use Rattle.codec.proofs.Blocks.{packed-counted}
-use Rattle.codec.proofs.Filling.{Filling, filling-none, filling-more, filling-room, filling-done}
+use Rattle.places.proofs.Blocks.{packed-counted}
+use Rattle.places.proofs.Filling.{Filling, filling-none, filling-more, filling-room, filling-done}
 use Rattle.bitpacked.proofs.reading.fill.Statement.{statement}
 use Rattle.bitpacked.proofs.reading.fill.Tie as tie
 

@@ -6,7 +6,7 @@ use lib.ListN.{length}
 use borrow.Author.Needs.{needs}
 use Rattle.format.specs.Keys.{unzigzag}
 use Rattle.number.proofs.Signed.{held}
-use Rattle.codec.proofs.Mapped.{Mapping, mapping-none, mapping-more, mapping-done}
+use Rattle.places.proofs.Mapped.{Mapping, mapping-none, mapping-more, mapping-done}
 use Rattle.bitpacked.proofs.reading.unzigzags.Statement.{statement}
 use Rattle.bitpacked.proofs.reading.unzigzags.Tie as tie
 

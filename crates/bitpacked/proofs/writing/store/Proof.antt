@@ -8,7 +8,7 @@ use lib.ListN.{length, take, length-take, length-set}
 use lib.Seq.{length-take-le}
 use borrow.Author.Needs.{needs}
 use Rattle.format.specs.Keys.{zigzag}
-use Rattle.codec.proofs.Packing.{Placing, placing-none, placing-block, placing-put, placing-done}
+use Rattle.places.proofs.Packing.{Placing, placing-none, placing-block, placing-put, placing-done}
 use Rattle.bitpacked.proofs.writing.store.Statement.{statement}
 use Rattle.bitpacked.proofs.writing.store.Tie as tie
 

@@ -9,7 +9,7 @@ use denote.Ref.{now}
 use borrow.Author.Needs.{needs}
 use Rattle.format.specs.Keys.{zigzag}
 use Rattle.number.proofs.Signed.{held}
-use Rattle.codec.proofs.Mapped.{map-next, map-end}
+use Rattle.places.proofs.Mapped.{map-next, map-end}
 use Rattle.bitpacked.proofs.Widest.{Gathered, gathered-none, gathered-more, gathered-all}
 use Rattle.bitpacked.proofs.writing.widest.Statement.{statement}
 use Rattle.bitpacked.proofs.writing.widest.Tie as tie

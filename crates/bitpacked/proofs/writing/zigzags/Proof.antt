@@ -8,7 +8,7 @@ use denote.Ref.{now}
 use borrow.Author.Needs.{needs}
 use Rattle.format.specs.Keys.{zigzag}
 use Rattle.number.proofs.Signed.{held}
-use Rattle.codec.proofs.Mapped.{Mapping, mapping-none, mapping-more, mapping-done}
+use Rattle.places.proofs.Mapped.{Mapping, mapping-none, mapping-more, mapping-done}
 use Rattle.bitpacked.proofs.writing.zigzags.Statement.{statement}
 use Rattle.bitpacked.proofs.writing.zigzags.Tie as tie
 

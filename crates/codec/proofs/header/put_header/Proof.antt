@@ -8,7 +8,7 @@ use borrow.Author.Needs.{needs}
 use Rattle.format.specs.Header.{headerLen}
 use Rattle.format.specs.Standalone.{uvarintWriteOutcome}
 use Rattle.format.proofs.codecs.Encodings.{idOf-high}
-use Rattle.codec.proofs.Placing.{header-short, header-stored, length-laid}
+use Rattle.places.proofs.Placing.{header-short, header-stored, length-laid}
 use Rattle.codec.proofs.header.put_header.Statement.{statement}
 use Rattle.codec.proofs.header.put_header.Tie as tie
 

@@ -11,7 +11,7 @@ use borrow.Author.Needs.{needs}
 use Rattle.format.specs.Packing.{packedLen}
 use Rattle.format.proofs.numbers.All.{all-by}
 use Rattle.bitpack.proofs.Parts.{part-rest}
-use Rattle.codec.proofs.Blocks.{packed-counted}
+use Rattle.places.proofs.Blocks.{packed-counted}
 use Rattle.number.proofs.Signed.{held}
 use Rattle.delta.proofs.Parts.{Parts, parts-none, parts-more, parts-done, parts-end, part-there}
 use Rattle.delta.proofs.filling.fill_block.Statement.{statement}

@@ -12,7 +12,7 @@ use Rattle.format.specs.Packing.{packedLen}
 use Rattle.format.specs.Folds.{least, greatest, deltas}
 use Rattle.format.proofs.numbers.Keys.{varintLen-le}
 use Rattle.format.proofs.numbers.Widths.{width-le}
-use Rattle.codec.proofs.Blocks.{packed-counted}
+use Rattle.places.proofs.Blocks.{packed-counted}
 use Rattle.delta.proofs.Held.{low-held, span-held}
 use Rattle.delta.proofs.Measured.{block-length, block-limit}
 use Rattle.delta.proofs.Windows.{length-deltas}

@@ -12,7 +12,7 @@ use Rattle.format.specs.Folds.{deltas}
 use Rattle.format.specs.Delta.{deltaBlockSize, deltaBody}
 use Rattle.format.proofs.numbers.Stores.{Storing, storing-none, storing-room}
 use Rattle.number.proofs.Signed.{held}
-use Rattle.codec.proofs.Placing.{storing-uvarint}
+use Rattle.places.proofs.Placing.{storing-uvarint}
 use Rattle.delta.specs.Written.{blocksOf}
 use Rattle.delta.proofs.Measured.{body-empty, body-parts}
 use Rattle.delta.proofs.writing.store.Statement.{statement}

@@ -14,8 +14,8 @@ use Rattle.format.specs.Folds.{least, greatest, deltas}
 use Rattle.format.specs.Delta.{blockBytes}
 use Rattle.format.proofs.numbers.Stores.{Storing, storing-none, storing-one, storing-done, storing-end, storing-room}
 use Rattle.format.proofs.numbers.Widths.{width-le}
-use Rattle.codec.proofs.Packing.{front-stored}
-use Rattle.codec.proofs.Placing.{storing-uvarint, storing-packed}
+use Rattle.places.proofs.Packing.{front-stored}
+use Rattle.places.proofs.Placing.{storing-uvarint, storing-packed}
 use Rattle.delta.proofs.Held.{low-held, span-held}
 use Rattle.delta.proofs.Placed.{blockOffsets, blockWidth, block-is}
 use Rattle.delta.proofs.Windows.{length-deltas}

@@ -5,7 +5,7 @@ use lib.Dec.{lit<}
 use lib.ListN.{length}
 use denote.Ref.{now}
 use borrow.Author.Needs.{needs}
-use Rattle.codec.specs.Packed.{Inside}
+use Rattle.places.specs.Packed.{Inside}
 use Rattle.dictionary.proofs.Tables.{body-codes, body-room, body-values}
 use Rattle.dictionary.proofs.lookup.fill.Statement.{statement}
 use Rattle.dictionary.proofs.lookup.fill.Tie as tie

@@ -8,7 +8,7 @@ use denote.Ref.{now}
 use borrow.Author.Needs.{needs}
 use Rattle.format.specs.Packing.{packedLen}
 use Rattle.format.proofs.numbers.All.{Below, all-by}
-use Rattle.codec.proofs.Blocks.{packed-counted}
+use Rattle.places.proofs.Blocks.{packed-counted}
 use Rattle.dictionary.proofs.Walks.{Looking, walk-none, walk-room, looking-none, looking-more, looking-done}
 use Rattle.dictionary.proofs.lookup.look_up.Statement.{statement}
 use Rattle.dictionary.proofs.lookup.look_up.Tie as tie

@@ -11,7 +11,7 @@ use Rattle.format.specs.Packing.{packedLen, packedValues}
 use Rattle.format.specs.Dictionary.{allBelow}
 use Rattle.format.proofs.numbers.All.{Below, all-by}
 use Rattle.codec.proofs.Headers.{not-true, not-false}
-use Rattle.codec.proofs.Blocks.{packed-counted}
+use Rattle.places.proofs.Blocks.{packed-counted}
 use Rattle.dictionary.proofs.Walks.{Walk, walk-none, walk-room, walk-more, walk-block, below-more, below-no, below-all}
 use Rattle.dictionary.proofs.reading.codes_below.Statement.{statement}
 use Rattle.dictionary.proofs.reading.codes_below.Tie as tie

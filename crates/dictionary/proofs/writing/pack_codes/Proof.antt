@@ -6,7 +6,7 @@ use lib.ListN.{length, take, length-take}
 use lib.Seq.{length-take-le}
 use borrow.Author.Needs.{needs}
 use Rattle.format.specs.Dictionary.{codeOf}
-use Rattle.codec.proofs.Packing.{Placing, placing-none, placing-block, placing-put, placing-done}
+use Rattle.places.proofs.Packing.{Placing, placing-none, placing-block, placing-put, placing-done}
 use Rattle.dictionary.proofs.writing.pack_codes.Statement.{statement}
 use Rattle.dictionary.proofs.writing.pack_codes.Tie as tie
 

@@ -6,7 +6,7 @@ use lib.IntN.{pos}
 use lib.ListN.{length}
 use borrow.Author.Needs.{needs}
 use Rattle.format.specs.Dictionary.{codeOf}
-use Rattle.codec.proofs.Mapped.{Mapping, mapping-none, mapping-more, mapping-done}
+use Rattle.places.proofs.Mapped.{Mapping, mapping-none, mapping-more, mapping-done}
 use Rattle.distinct.proofs.Machine.{read-back}
 use Rattle.dictionary.proofs.writing.put_codes.Statement.{statement}
 use Rattle.dictionary.proofs.writing.put_codes.Tie as tie

@@ -14,9 +14,9 @@ use Rattle.format.specs.Packing.{packedLen}
 use Rattle.format.specs.Keys.{wrappingAdd, keyAt}
 use Rattle.format.specs.Frame.{frameValues}
 use Rattle.format.proofs.numbers.All.{Below, all-by}
-use Rattle.codec.proofs.Blocks.{packed-counted}
+use Rattle.places.proofs.Blocks.{packed-counted}
 use Rattle.number.proofs.Signed.{held}
-use Rattle.codec.proofs.Filling.{Filling, filling-none, filling-more, filling-room, filling-done}
+use Rattle.places.proofs.Filling.{Filling, filling-none, filling-more, filling-room, filling-done}
 use Rattle.frame.proofs.reading.fill.Statement.{statement}
 use Rattle.frame.proofs.reading.fill.Tie as tie
 

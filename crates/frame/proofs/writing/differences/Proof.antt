@@ -13,7 +13,7 @@ use denote.Ref.{now}
 use borrow.Author.Needs.{needs}
 use Rattle.format.specs.Keys.{gap}
 use Rattle.number.proofs.Signed.{held}
-use Rattle.codec.proofs.Mapped.{Mapping, mapping-none, mapping-more, mapping-done}
+use Rattle.places.proofs.Mapped.{Mapping, mapping-none, mapping-more, mapping-done}
 use Rattle.frame.proofs.writing.differences.Statement.{statement}
 use Rattle.frame.proofs.writing.differences.Tie as tie
 

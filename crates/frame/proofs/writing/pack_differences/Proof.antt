@@ -13,7 +13,7 @@ use denote.Ref.{now}
 use borrow.Author.Needs.{needs}
 use Rattle.format.specs.Keys.{gap}
 use Rattle.format.specs.Packing.{packed}
-use Rattle.codec.proofs.Packing.{Placing, placing-none, placing-block, placing-put, placing-done}
+use Rattle.places.proofs.Packing.{Placing, placing-none, placing-block, placing-put, placing-done}
 use Rattle.frame.proofs.writing.pack_differences.Statement.{statement}
 use Rattle.frame.proofs.writing.pack_differences.Tie as tie
 

@@ -1,0 +1,14 @@
+-- Past the end `getD` is 0 too.
+use mathlib.Core.Path.{sym}
+use native.Mathlib.Omega.{arith}
+use lib.ListN.{List·getD-eq-default}
+use denote.Ref.{now}
+use borrow.Author.Needs.{needs}
+use Rattle.places.proofs.load.byte_at.Statement.{statement}
+use Rattle.places.proofs.load.byte_at.Tie as tie
+
+returns-2 : tie.Need-returns-2
+returns-2 c = (sym (List·getD-eq-default (now (c .before .before .args .chunk)) 0 (c .if1 .left)), omega arith)
+
+pub byte-at-spec : {M : Type 1} → statement M
+byte-at-spec = tie.close (tie.spec (λ c. search needs) (λ c κs. search needs) (λ c. search needs) returns-2)
