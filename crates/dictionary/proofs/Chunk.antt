@@ -14,7 +14,7 @@ use Rattle.format.specs.Outcome.{Outcome, refused, ok, check, _>>=_}
 use Rattle.format.specs.Encodings.{encodingOf, encodings, maxChunkElements}
 use Rattle.format.specs.Header.{headerLen}
 use Rattle.format.specs.Answers.{stored}
-use Rattle.format.specs.Distinct.{distinct, tooManyDistinct, scratchNeeded, scratchCheck}
+use Rattle.format.specs.Distinct.{distinct, Rising, tooManyDistinct, scratchNeeded, scratchCheck}
 use Rattle.format.specs.Dictionary.{dictionaryBody, dictionaryBodyWith}
 use Rattle.format.specs.Chunk.{bodyOf, chunkOf}
 use Rattle.format.specs.Write.{forDictionary, writeChecks, writeOutcome, writeAnswer, writeOutput}
@@ -22,7 +22,7 @@ use Rattle.format.specs.declared.Answer.{Answer}
 use Rattle.format.specs.declared.Answer.the-variants.{Accepted, Refused}
 use Rattle.format.specs.declared.Encoding.{Encoding}
 use Rattle.format.specs.declared.Encoding.the-variants.{Dictionary}
-use Rattle.format.proofs.numbers.Distinct.{Rising, distinct-rising}
+use Rattle.format.proofs.numbers.Distinct.{distinct-rising}
 use Rattle.codec.proofs.Writing.{length-chunk}
 use Rattle.distinct.specs.Collect.{countOutcome, collectOutcome}
 use Rattle.distinct.proofs.Answering.{Collected}

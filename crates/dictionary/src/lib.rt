@@ -14,6 +14,7 @@ use format::Answer;
 use format::Encoding;
 use format::HeaderAnswer;
 
+pub(crate) mod guess;
 pub(crate) mod lookup;
 pub(crate) mod reading;
 pub(crate) mod writing;

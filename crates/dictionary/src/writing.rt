@@ -2,7 +2,7 @@
 // place among them.
 ghost use mathlib.Core.Path.{_≡_};
 ghost use mathlib.Core.List.{map};
-ghost use Prim.Native.Nat.{_+_, _≤_, min};
+ghost use Prim.Native.Nat.{_+_, _≤_, _<_, min};
 ghost use lib.ListN.{length};
 ghost use lib.Seq.{sets};
 ghost use Rattle.format.specs.Keys.{gap};
@@ -10,9 +10,10 @@ ghost use Rattle.format.specs.Packing.{packedLen, packed};
 ghost use Rattle.format.specs.Encodings.{maxChunkElements, maxDictionaryCardinality};
 ghost use Rattle.format.specs.Dictionary.{entryBytes, codeOf, codeWidth, dictionaryBodyWith};
 ghost use Rattle.format.specs.Estimates.{entriesLen};
-ghost use Rattle.format.proofs.numbers.Distinct.{Rising};
+ghost use Rattle.format.specs.Distinct.{Rising};
 ghost use Rattle.dictionary.specs.Body.{bodyLen};
-use distinct::GUESSES;
+use crate::guess::rank;
+use places::block::block_len;
 use places::put_packed;
 use places::put_uvarint;
 use places::put_varint;
@@ -80,20 +81,13 @@ pub(crate) fn body_len(entries: &[i64], count: usize) -> usize
     varint::uvarint_len(entries.len() as u64) + entries_len(entries) + 1 + (count * width + 7) / 8
 }
 
-// How many of the values that are left a block has.
-fn block_len(left: usize) -> usize
-    ensures { λ r. ⌜ r ≡ min left 128 ⌝ }
-{
-    if left < 128 { left } else { 128 }
-}
-
 // The codes of a part of the column, at the front of `block`.
-fn put_codes(part: &[i64], entries: &[i64], guesses: &mut [u16; GUESSES], block: &mut [u64])
-    requires { ⌜ (length (now part) ≤ length (now block)) × Rising (now entries) ⌝ }
+fn put_codes(part: &[i64], entries: &[i64], guesses: &mut [u16], block: &mut [u64])
+    requires { ⌜ (length (now part) ≤ length (now block)) × (0 < length (now guesses)) × Rising (now entries) ⌝ }
     ensures { λ _. ⌜ now (block .exit) ≡ sets (now (block .entry)) 0 (map (codeOf (now (entries .entry))) (now (part .entry))) ⌝ }
 {
     for j in 0..part.len() {
-        block[j] = distinct::rank(entries, part[j], guesses) as u64;
+        block[j] = rank(entries, part[j], guesses) as u64;
     }
 }
 
@@ -102,11 +96,11 @@ fn pack_codes(
     column: &[i64],
     entries: &[i64],
     width: u32,
-    guesses: &mut [u16; GUESSES],
+    guesses: &mut [u16],
     out: &mut [u8],
     start: usize,
 )
-    requires { ⌜ (width ≤ 64) × (start + packedLen (length (now column)) width ≤ length (now out)) × Rising (now entries) ⌝ }
+    requires { ⌜ (width ≤ 64) × (start + packedLen (length (now column)) width ≤ length (now out)) × (0 < length (now guesses)) × Rising (now entries) ⌝ }
     ensures { λ _. ⌜ now (out .exit) ≡ sets (now (out .entry)) start (packed width (map (codeOf (now (entries .entry))) (now (column .entry)))) ⌝ }
 {
     let mut block = [0u64; 128];
@@ -121,6 +115,20 @@ fn pack_codes(
     }
 }
 
+// The same with guesses of its own. A short column has few of them, since a local table is cleared first.
+fn store_codes(column: &[i64], entries: &[i64], width: u32, out: &mut [u8], start: usize)
+    requires { ⌜ (width ≤ 64) × (start + packedLen (length (now column)) width ≤ length (now out)) × Rising (now entries) ⌝ }
+    ensures { λ _. ⌜ now (out .exit) ≡ sets (now (out .entry)) start (packed width (map (codeOf (now (entries .entry))) (now (column .entry)))) ⌝ }
+{
+    if column.len() <= 1024 {
+        let mut few = [0u16; 128];
+        pack_codes(column, entries, width, &mut few, out, start);
+        return;
+    }
+    let mut guesses = [0u16; 32768];
+    pack_codes(column, entries, width, &mut guesses, out, start);
+}
+
 // Stores the body from `start` on: the total, the entries, the width byte, the codes.
 pub(crate) fn store(column: &[i64], entries: &[i64], out: &mut [u8], start: usize)
     requires { ⌜ (start + bodyLen (now entries) (length (now column)) ≤ length (now out)) × Rising (now entries) ⌝ }
@@ -131,6 +139,5 @@ pub(crate) fn store(column: &[i64], entries: &[i64], out: &mut [u8], start: usiz
     let at = put_entries(entries, out, first);
     let width = code_width(total);
     out[at] = width as u8;
-    let mut guesses = [0u16; GUESSES];
-    pack_codes(column, entries, width, &mut guesses, out, at + 1);
+    store_codes(column, entries, width, out, at + 1);
 }

@@ -11,7 +11,7 @@ use lib.Signed.{ltZ}
 use lib.ListN.{length, getD}
 use Rattle.format.specs.Dictionary.{codeOf}
 use Rattle.format.proofs.numbers.Order.{ltZ-trans, ltZ-self}
-use Rattle.format.proofs.numbers.Distinct.{Rising}
+use Rattle.format.specs.Distinct.{Rising}
 
 -- the first value is less than every later one
 first-least : (x : ℤ) (xs : List ℤ) (m : ℕ) → Rising (x ∷ xs) → m < length xs → ltZ x (getD xs m (pos 0)) ≡ true

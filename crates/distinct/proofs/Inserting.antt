@@ -14,21 +14,18 @@ use lib.ListN.{length, getD, take, drop, length-append, take-append-drop}
 use lib.Seq.{slice, length-take-le, length-slice, take-take}
 use borrow.Author.Tests.{le-leb, lt-leb, eq-eqb}
 use Rattle.format.specs.Keys.{eqZ}
-use Rattle.format.specs.Encodings.{maxDictionaryCardinality}
 use Rattle.format.specs.Answers.{stored}
 use Rattle.format.specs.Distinct.{insert}
 use Rattle.format.specs.Dictionary.{codeOf}
 use Rattle.format.proofs.numbers.Order.{ltZ-neither, ltZ-self}
-use Rattle.distinct.specs.Collect.{taken}
+use Rattle.distinct.specs.Collect.{has, taken, gathered, gatheredCount}
+use Rattle.distinct.specs.Search.{standsAt}
 use Rattle.distinct.proofs.Codes.{code-le}
-use Rattle.distinct.proofs.Guesses.{standsAt, stands-value, stands-other}
+use Rattle.distinct.proofs.Members.{eqZ-self}
+use Rattle.distinct.proofs.Standing.{stands-value, stands-other}
 use Rattle.distinct.proofs.Shifting.{opened}
 
 -- ---- the key and the value at its code
-
-eqZ-self : (a : ℤ) → eqZ a a ≡ true
-eqZ-self (pos a) = eq-eqb a a refl
-eqZ-self (negsuc a) = eq-eqb a a refl
 
 -- what is neither less nor the key is greater
 above : (v key : ℤ) → ltZ v key ≡ false → eqZ v key ≡ false → ltZ key v ≡ true
@@ -82,17 +79,17 @@ insert-known key (x ∷ xs) l h = go (ltZ x key) l h (insert-known key xs)
 
 -- ---- the scratch
 
-module _ (s : List ℤ) (held at : ℕ) (key : ℤ) (room : held ≤ length s) (code : at ≡ codeOf (take held s) key) where
+-- with its own front a list is as it was
+pub same-front : (s : List ℤ) (held : ℕ) → held ≤ length s → s ≡ stored (take held s) s
+unfolding stored
+same-front s held h = sym (ap (λ (n : ℕ). take held s ++ drop n s) (length-take-le held s h) ∙ take-append-drop held s)
+
+module _ (s : List ℤ) (held cap at : ℕ) (key : ℤ) (room : held ≤ length s) (code : at ≡ codeOf (take held s) key) where
   abbrev front : List ℤ
   front = take held s
 
   many : length front ≡ held
   many = length-take-le held s room
-
-  -- with its own front a scratch is as it was
-  same-front : s ≡ stored front s
-  unfolding stored
-  same-front = sym (ap (λ (n : ℕ). front ++ drop n s) many ∙ take-append-drop held s)
 
   module _ {r : Bool} {asked : ℤ} (e : r ≡ standsAt front at asked) (k : asked ≡ key) where
     -- the key is there
@@ -103,9 +100,9 @@ module _ (s : List ℤ) (held at : ℕ) (key : ℤ) (room : held ≤ length s) (
           let is : getD front (codeOf front key) (pos 0) ≡ key = ap (λ (n : ℕ). getD front n (pos 0)) (sym code) ∙ v .1 ∙ k in
           insert-known key front (rw (← code) (v .0)) (ap (ltZ key) is ∙ ltZ-self key)
 
-      pub taken-known : (held ≡ length (insert key front)) × (s ≡ stored (taken key front) s)
+      pub taken-known : (held ≡ length (insert key front)) × (s ≡ stored (taken cap key front) s)
       unfolding taken
-      taken-known = (sym (ap length known ∙ many), same-front ∙ ap (λ (l : List ℤ). stored l s) (go (leb (length (insert key front)) maxDictionaryCardinality)))
+      taken-known = (sym (ap length known ∙ many), same-front s held room ∙ ap (λ (l : List ℤ). stored l s) (go (leb (length (insert key front)) cap)))
         where
           go : (t : Bool) → front ≡ cond t (insert key front) front
           go true = sym known
@@ -130,12 +127,12 @@ module _ (s : List ℤ) (held at : ℕ) (key : ℤ) (room : held ≤ length s) (
           ∙ omega (arith, length-take-le at s (omega arith), length-slice at held s room)
 
       -- and one too many
-      pub taken-full : held ≡ maxDictionaryCardinality → (held + 1 ≡ length (insert key front)) × (s ≡ stored (taken key front) s)
+      pub taken-full : held ≡ cap → (held + 1 ≡ length (insert key front)) × (s ≡ stored (taken cap key front) s)
       unfolding taken
-      taken-full h = (sym more, same-front ∙ ap (λ (t : Bool). stored (cond t (insert key front) front) s) (sym (lt-leb (length (insert key front)) maxDictionaryCardinality (omega (arith, more)))))
+      taken-full h = (sym more, same-front s held room ∙ ap (λ (t : Bool). stored (cond t (insert key front) front) s) (sym (lt-leb (length (insert key front)) cap (omega (arith, more)))))
 
       -- and takes its place
-      pub taken-new : held < maxDictionaryCardinality → {after : List ℤ} → after ≡ opened s at held asked → (held + 1 ≡ length (insert key front)) × (after ≡ stored (taken key front) s)
+      pub taken-new : held < cap → {after : List ℤ} → after ≡ opened s at held asked → (held + 1 ≡ length (insert key front)) × (after ≡ stored (taken cap key front) s)
       unfolding taken stored
       taken-new h {after} f = (
         sym more,
@@ -144,5 +141,20 @@ module _ (s : List ℤ) (held at : ℕ) (key : ℤ) (room : held ≤ length s) (
             ∙ sym (append-assoc (take at s) (key ∷ slice at held s) (drop (suc held) s))
             ∙ ap (λ (l : List ℤ). l ++ drop (suc held) s) (sym new)
             ∙ ap (λ (n : ℕ). insert key front ++ drop n s) (sym (more ∙ add-one held))
-            ∙ ap (λ (t : Bool). stored (cond t (insert key front) front) s) (sym (le-leb (length (insert key front)) maxDictionaryCardinality (omega (arith, more)))),
+            ∙ ap (λ (t : Bool). stored (cond t (insert key front) front) s) (sym (le-leb (length (insert key front)) cap (omega (arith, more)))),
       )
+
+-- ---- a key gathered
+
+module _ (cap : ℕ) (held : List ℤ) (p : List ℤ) (waiting : ℕ) {key asked : ℤ} {r : Bool} (e : r ≡ has held asked) (k : asked ≡ key) where
+  -- one that is held
+  pub gathered-held : waiting ≤ length p → r ≡ true → (waiting ≡ gatheredCount held key (take waiting p)) × (p ≡ stored (gathered cap held key (take waiting p)) p)
+  unfolding gatheredCount gathered
+  gathered-held h t = rw (ap (has held) (sym k) ∙ sym e ∙ t) (sym (length-take-le waiting p h), same-front p waiting h)
+
+  -- one that is not
+  pub gathered-other : r ≡ false → {many : ℕ} {after : List ℤ} → many ≡ length (insert asked (take waiting p)) → after ≡ stored (taken cap asked (take waiting p)) p
+      → (many ≡ gatheredCount held key (take waiting p)) × (after ≡ stored (gathered cap held key (take waiting p)) p)
+  unfolding gatheredCount gathered
+  gathered-other t m a =
+      rw (ap (has held) (sym k) ∙ sym e ∙ t) (m ∙ ap (λ (v : ℤ). length (insert v (take waiting p))) k, a ∙ ap (λ (v : ℤ). stored (taken cap v (take waiting p)) p) k)

@@ -1,8 +1,11 @@
 pub mod Answering
 pub mod Codes
 pub mod Collecting
-pub mod Guesses
 pub mod Inserting
 pub mod Machine
+pub mod Members
+pub mod Merging
 pub mod Searching
 pub mod Shifting
+pub mod Slots
+pub mod Standing

@@ -1,11 +1,12 @@
 -- Collecting a column's distinct values (01, "Questions at the counter", "Writing": "At most 2^24 values? 21. For Dictionary: scratch of min(count, 16,384)? 22; at most
 -- 16,384 distinct? 23"; "Offsets of 21 to 24 are 0").
 use Prim.Native.Nat.{ℕ}
-use mathlib.Core.Bool.{not, cond}
-use mathlib.Core.List.{List}
+use mathlib.Core.Bool.{Bool, false, not, cond, _||_}
+use mathlib.Core.List.{List, [], _∷_}
 use lib.IntN.{ℤ}
 use lib.Dec.{leb}
 use lib.ListN.{length}
+use Rattle.format.specs.Keys.{eqZ}
 use Rattle.format.specs.Outcome.{Outcome, ok, check, _>>=_}
 use Rattle.format.specs.Encodings.{maxChunkElements, maxDictionaryCardinality}
 use Rattle.format.specs.Answers.{answerOf}
@@ -29,6 +30,20 @@ collectOutcome column room = do
 unfoldable pub collectAnswer : List ℤ → ℕ → Answer
 collectAnswer column room = answerOf (collectOutcome column room)
 
--- a value taken in among those held, unless they are more than 16,384 with it
-unfoldable pub taken : ℤ → List ℤ → List ℤ
-taken v held = cond (leb (length (insert v held)) maxDictionaryCardinality) (insert v held) held
+-- whether a list has a key
+unfoldable pub has : List ℤ → ℤ → Bool
+has [] v = false
+has (x ∷ xs) v = eqZ x v || has xs v
+
+-- ---- what private functions say
+
+-- a key taken in among those held, unless they are more than `cap` with it
+unfoldable pub taken : ℕ → ℤ → List ℤ → List ℤ
+taken cap v held = cond (leb (length (insert v held)) cap) (insert v held) held
+
+-- a key taken in among those that wait, unless it is held, or they are more than `cap` with it; and how many would wait with it
+unfoldable pub gathered : ℕ → List ℤ → ℤ → List ℤ → List ℤ
+gathered cap held v waiting = cond (has held v) waiting (taken cap v waiting)
+
+unfoldable pub gatheredCount : List ℤ → ℤ → List ℤ → ℕ
+gatheredCount held v waiting = cond (has held v) (length waiting) (length (insert v waiting))

@@ -1,1 +1,3 @@
 pub mod Collect
+pub mod Merge
+pub mod Search

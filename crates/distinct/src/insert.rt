@@ -1,15 +1,16 @@
 // Taking a key in among the rising values at the front of a scratch.
 ghost use mathlib.Core.Path.{_≡_};
 ghost use mathlib.Core.List.{_∷_, _++_};
-ghost use Prim.Native.Nat.{suc, _≤_, _<_};
+ghost use Prim.Native.Nat.{suc, _+_, _-_, _≤_, _<_};
 ghost use lib.ListN.{length, take, drop};
 ghost use lib.Seq.{slice};
 ghost use Rattle.format.specs.Encodings.{maxDictionaryCardinality};
 ghost use Rattle.format.specs.Answers.{stored};
-ghost use Rattle.format.specs.Distinct.{insert};
-ghost use Rattle.format.specs.Dictionary.{codeOf};
-ghost use Rattle.distinct.specs.Collect.{taken};
-use crate::guess::stands;
+ghost use Rattle.format.specs.Distinct.{insert, Rising};
+ghost use Rattle.distinct.specs.Collect.{taken, gathered, gatheredCount};
+use crate::known::holds;
+use crate::search;
+use crate::stands;
 use format::limits::MAX_DICTIONARY_CARDINALITY;
 
 // The values from `at` to `held` go up by one place, the last first, and the key is put at `at`.
@@ -27,20 +28,40 @@ fn put_in(scratch: &mut [i64], at: usize, held: usize, key: i64)
     scratch[at] = key;
 }
 
-// Takes a key whose place is `at` in among the first `held` values, unless it is there or 16,384 are held. Returns how many are
-// distinct with it: 16,385 say that it was one too many.
-pub(crate) fn take_in(scratch: &mut [i64], held: usize, at: usize, key: i64) -> usize
-    requires { ⌜ (held ≤ maxDictionaryCardinality) × (held ≤ length (now scratch)) × (held < maxDictionaryCardinality → held < length (now scratch)) ⌝ }
-    requires { ⌜ at ≡ codeOf (take held (now scratch)) key ⌝ }
-    ensures { λ r. ⌜ r ≡ length (insert key (take held (now (scratch .entry)))) ⌝ }
-    ensures { λ _. ⌜ now (scratch .exit) ≡ stored (taken key (take held (now (scratch .entry)))) (now (scratch .entry)) ⌝ }
+// Takes a key in among the first `held` values, unless it is there or `cap` are held. Returns how many there are with it: one
+// more than `cap` says that it was one too many.
+pub(crate) fn take_in(values: &mut [i64], held: usize, cap: usize, key: i64) -> usize
+    requires { ⌜ (held ≤ cap) × (held < length (now values)) × Rising (take held (now values)) ⌝ }
+    ensures { λ r. ⌜ r ≡ length (insert key (take held (now (values .entry)))) ⌝ }
+    ensures { λ _. ⌜ now (values .exit) ≡ stored (taken cap key (take held (now (values .entry)))) (now (values .entry)) ⌝ }
 {
-    if stands(&scratch[..held], at, key) {
+    let at = search(&values[..held], key);
+    if stands(&values[..held], at, key) {
         return held;
     }
-    if held == MAX_DICTIONARY_CARDINALITY {
+    if held == cap {
         return held + 1;
     }
-    put_in(scratch, at, held, key);
+    put_in(values, at, held, key);
     held + 1
+}
+
+// Takes a key in among those that wait, unless the first `held` values have it, or it would be the 16,385th with them. Returns
+// how many wait with it.
+pub(crate) fn gather(
+    scratch: &[i64],
+    held: usize,
+    pending: &mut [i64],
+    waiting: usize,
+    key: i64,
+) -> usize
+    requires { ⌜ (held + waiting ≤ maxDictionaryCardinality) × (held ≤ length (now scratch)) × (waiting < length (now pending)) ⌝ }
+    requires { ⌜ Rising (take held (now scratch)) × Rising (take waiting (now pending)) ⌝ }
+    ensures { λ r. ⌜ r ≡ gatheredCount (take held (now (scratch .entry))) key (take waiting (now (pending .entry))) ⌝ }
+    ensures { λ _. ⌜ now (pending .exit) ≡ stored (gathered (maxDictionaryCardinality - held) (take held (now (scratch .entry))) key (take waiting (now (pending .entry)))) (now (pending .entry)) ⌝ }
+{
+    if holds(&scratch[..held], key) {
+        return waiting;
+    }
+    take_in(pending, waiting, MAX_DICTIONARY_CARDINALITY - held, key)
 }

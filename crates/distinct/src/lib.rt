@@ -1,64 +1,72 @@
-// The distinct values of a column, rising, at the front of a lent scratch, and a key's place among them: the Rust's `HashSet`
-// in stats.rs, and the sorted `Vec` and `partition_point` of its DictionaryCodec.
+// The distinct values of a column, rising, at the front of a lent scratch, and a search among them: the Rust's `HashSet` in
+// stats.rs, and the sorted `Vec` and `partition_point` of its DictionaryCodec.
 ghost use mathlib.Core.Path.{_≡_};
 ghost use Prim.Native.Nat.{min, _≤_};
 ghost use lib.ListN.{length};
 ghost use Rattle.format.specs.Encodings.{maxDictionaryCardinality};
 ghost use Rattle.format.specs.Answers.{answerOf};
 ghost use Rattle.format.specs.Distinct.{scratchNeeded, collected};
-ghost use Rattle.format.specs.Dictionary.{codeOf};
 ghost use Rattle.format.specs.Write.{writeScratch};
-ghost use Rattle.format.proofs.numbers.Distinct.{Rising};
 ghost use Rattle.distinct.specs.Collect.{countOutcome, collectAnswer};
-use crate::guess::guess_of;
-use crate::guess::place_of;
-use crate::guess::slot_of;
-use crate::guess::stands;
-use crate::insert::take_in;
-use crate::search::search;
+ghost use Rattle.distinct.specs.Search.{searched, slotOf, standsAt};
+use crate::fill::fill_by_size;
+use crate::halving::begin;
+use crate::halving::power;
+use crate::halving::step;
+use crate::key::same;
 use format::Answer;
 use format::limits::MAX_CHUNK_ELEMENTS;
 use format::limits::MAX_DICTIONARY_CARDINALITY;
 
-pub(crate) mod guess;
+pub(crate) mod fill;
+pub(crate) mod halving;
 pub(crate) mod insert;
-pub(crate) mod search;
+pub(crate) mod key;
+pub(crate) mod known;
+pub(crate) mod merge;
 
-// How many guesses `rank` keeps, one for every slot.
-pub const GUESSES: usize = 32768;
-
-// How many values are less than a key, if the values rise; if they do not, the rules leave the result open. `guesses` holds
-// where keys were found before: a caller lends zeros, and the same array again for more keys. It is no result, and whatever it
-// holds the result is the same.
-pub fn rank(values: &[i64], key: i64, guesses: &mut [u16; GUESSES]) -> usize
-    ensures { λ r. ⌜ (Rising (now (values .entry)) → r ≡ codeOf (now (values .entry)) key) ⌝ }
+// A binary search. Among rising values it finds how many are less than the key; in any other list, where the halvings lead.
+// The answer lies in 2^left places from `low` on, and every turn halves them; to begin with these are the first or the last of
+// the values, whichever the answer lies in.
+pub fn search(values: &[i64], key: i64) -> usize
+    ensures { λ r. ⌜ r ≡ searched (now (values .entry)) key ⌝ }
 {
-    let slot = slot_of(key);
-    let guess = place_of(guesses[slot]);
-    if stands(values, guess, key) {
-        return guess;
+    let count = values.len();
+    if count == 0 {
+        return 0;
     }
-    let place = search(values, key);
-    guesses[slot] = guess_of(place);
-    place
+    let mut left = number::required_width(count as u64) - 1;
+    let last = count - power(left);
+    let mut low = begin(values[last], key, last);
+    while left > 0 {
+        left -= 1;
+        let middle = low + power(left);
+        low += step(values[middle], key, left);
+    }
+    low + step(values[low], key, 0)
 }
 
-// Collects the distinct values in a scratch that is long enough.
-fn fill(column: &[i64], scratch: &mut [i64], guesses: &mut [u16; GUESSES]) -> Answer
-    requires { ⌜ scratchNeeded (now column) ≤ length (now scratch) ⌝ }
-    ensures { λ r. ⌜ r ≡ answerOf (countOutcome (now (column .entry))) ⌝ }
-    ensures { λ _. ⌜ now (scratch .exit) ≡ collected (now (column .entry)) (now (scratch .entry)) ⌝ }
+// Whether a key stands at a place.
+pub fn stands(values: &[i64], at: usize, key: i64) -> bool
+    ensures { λ r. ⌜ r ≡ standsAt (now (values .entry)) at key ⌝ }
 {
-    let mut held = 0;
-    for i in 0..column.len() {
-        let key = column[i];
-        let place = rank(&scratch[..held], key, guesses);
-        held = take_in(scratch, held, place, key);
-        if held > MAX_DICTIONARY_CARDINALITY {
-            return Answer::Refused(format::refusal::TOO_MANY_DISTINCT, 0);
-        }
+    if values.len() <= at {
+        return false;
     }
-    Answer::Accepted(held)
+    same(values[at], key)
+}
+
+// The slot of a key in a table of a power of two of slots: bits of its halves' product with a prime, so that near keys have slots
+// far apart. A table of another length is not used evenly, and one of no slots has slot 0.
+pub fn slot_of(key: i64, slots: usize) -> usize
+    ensures { λ r. ⌜ r ≡ slotOf key slots ⌝ }
+{
+    if slots == 0 {
+        return 0;
+    }
+    let bits = number::bits_of(key);
+    let folded = (bits ^ (bits >> 32)) % 4294967296;
+    (folded * 2654435761 / 131072) as usize & (slots - 1)
 }
 
 // How many places a scratch needs for `count` values.
@@ -84,6 +92,8 @@ pub fn collect(column: &[i64], scratch: &mut [i64]) -> Answer
     if scratch.len() < places_needed(column.len()) {
         return Answer::Refused(format::refusal::SCRATCH_TOO_SHORT, 0);
     }
-    let mut guesses = [0u16; GUESSES];
-    fill(column, scratch, &mut guesses)
+    if column.len() == 0 {
+        return Answer::Accepted(0);
+    }
+    fill_by_size(column, scratch)
 }

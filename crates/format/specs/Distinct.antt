@@ -1,7 +1,8 @@
 -- The distinct values of a column, rising, as they are collected in the scratch (01, "Statistics, estimates, plan": "Scratch after a call ..: the distinct
 -- values rising (of more than 16,384, the first 16,384 met), then old contents").
 use Prim.Native.Nat.{ℕ, min}
-use mathlib.Core.Bool.{Bool, cond}
+use mathlib.Core.Path.{_≡_}
+use mathlib.Core.Bool.{Bool, true, cond}
 use mathlib.Core.List.{List, [], _∷_}
 use lib.IntN.{ℤ}
 use lib.Dec.{leb, ltb}
@@ -23,6 +24,16 @@ distinctFrom held (v ∷ vs) = distinctFrom (insert v held) vs
 
 unfoldable pub distinct : List ℤ → List ℤ
 distinct column = distinctFrom [] column
+
+-- v is less than the first of a list, if there is one
+abbrev pub Under : ℤ → List ℤ → Type 0
+Under v [] = Unit {0}
+Under v (x ∷ xs) = ltZ v x ≡ true
+
+-- "rising": each value is less than the next. Codes are looked for among such values; `distinct` gives no others
+abbrev pub Rising : List ℤ → Type 0
+Rising [] = Unit {0}
+Rising (x ∷ xs) = Under x xs × Rising xs
 
 -- more than 16,384 of them?
 unfoldable pub tooManyDistinct : List ℤ → Bool

@@ -1,6 +1,11 @@
 -- `collect` meets its contract, by the first question that is answered with no.
+use Prim.Native.Nat.{_≤_}
 use native.Mathlib.Omega.{arith}
-use Rattle.distinct.proofs.Answering.{answers-above, answers-short, answers-count}
+use lib.ListN.{length}
+use denote.Ref.{now}
+use borrow.Author.Needs.{needs}
+use Rattle.format.specs.Distinct.{scratchNeeded}
+use Rattle.distinct.proofs.Answering.{answers-above, answers-short, answers-count, counted-none}
 use Rattle.distinct.proofs.collect.Statement.{statement}
 use Rattle.distinct.proofs.collect.Tie as tie
 
@@ -10,19 +15,23 @@ returns c = answers-above _ _ (c .if1 .taken)
 returns-2 : tie.Need-returns-2
 returns-2 c = answers-short _ _ (c .before .before .if1 .left) (omega (arith, c .before .places-needed .ensures, c .if2 .taken))
 
-fill-requires : tie.Need-fill-requires
-fill-requires c κs =
-    let asked = c .before .before in
-    omega (arith, asked .before .places-needed .ensures, asked .if2 .left)
-
-same-length : tie.Need-same-length
-same-length c = c .before .fill .kept .1 .0
+-- the scratch is long enough
+room : (c : tie.Else2) → let a = c .before .before .before .args in scratchNeeded (now (a .column)) ≤ length (now (a .scratch))
+room c = omega (arith, c .before .places-needed .ensures, c .if2 .left)
 
 returns-3 : tie.Need-returns-3
 returns-3 c =
+    let n = counted-none _ _ (c .if3 .taken) in
+    answers-count _ _ (c .before .before .before .if1 .left) (room (c .before)) (n .0) (n .1)
+
+fill-by-size-requires : tie.Need-fill-by-size-requires
+fill-by-size-requires c κs = (room (c .before .before), search needs)
+
+returns-4 : tie.Need-returns-4
+returns-4 c =
     let asked = c .before .before .before .before in
-    let told = c .before .fill .ensures in
-    answers-count _ _ (asked .before .before .if1 .left) (omega (arith, asked .before .places-needed .ensures, asked .if2 .left)) (told .0) (told .1)
+    let told = c .before .fill-by-size .ensures in
+    answers-count _ _ (asked .before .before .if1 .left) (room asked) (told .0) (told .1)
 
 pub collect-spec : {M : Type 1} → statement M
-collect-spec = tie.close (tie.spec returns (λ c κs. tt) returns-2 fill-requires same-length returns-3)
+collect-spec = tie.close (tie.spec returns (λ c κs. search needs) returns-2 returns-3 fill-by-size-requires (λ c. search needs) returns-4)

@@ -13,7 +13,7 @@ use lib.ListN.{length}
 use borrow.Author.Tests.{ltb-true, ltb-false, le-ltb, lt-ltb}
 use Rattle.format.specs.Keys.{Key}
 use Rattle.format.specs.Encodings.{maxDictionaryCardinality}
-use Rattle.format.specs.Distinct.{insert, distinctFrom, distinct, tooManyDistinct, cappedDistinctFrom, cappedDistinct}
+use Rattle.format.specs.Distinct.{insert, distinctFrom, distinct, Under, Rising, tooManyDistinct, cappedDistinctFrom, cappedDistinct}
 use Rattle.format.specs.Statistics.{distinctValues}
 use Rattle.format.proofs.numbers.All.{all-more, all-none, All}
 
@@ -40,7 +40,7 @@ length-insert v (x ∷ xs) = go (ltZ x v) (ltZ v x) (length-insert v xs)
     go false false i = omega arith
 
 -- where the count does not grow, the value was there
-insert-same : (v : ℤ) (held : List ℤ) → length (insert v held) ≤ length held → insert v held ≡ held
+pub insert-same : (v : ℤ) (held : List ℤ) → length (insert v held) ≤ length held → insert v held ≡ held
 unfolding insert
 insert-same v [] h = absurd (omega arith)
 insert-same v (x ∷ xs) h = go (ltZ x v) (ltZ v x) (insert-same v xs) h
@@ -53,13 +53,13 @@ insert-same v (x ∷ xs) h = go (ltZ x v) (ltZ v x) (insert-same v xs) h
     go false false i h = refl
 
 -- the walk loses none that is held
-distinctFrom-grows : (held vs : List ℤ) → length held ≤ length (distinctFrom held vs)
+pub distinctFrom-grows : (held vs : List ℤ) → length held ≤ length (distinctFrom held vs)
 unfolding distinctFrom
 distinctFrom-grows held [] = le-refl _
 distinctFrom-grows held (v ∷ vs) = le-trans (insert-grows v held) (distinctFrom-grows (insert v held) vs)
 
 -- and adds at most what is to come
-distinctFrom-most : (held vs : List ℤ) → length (distinctFrom held vs) ≤ length held + length vs
+pub distinctFrom-most : (held vs : List ℤ) → length (distinctFrom held vs) ≤ length held + length vs
 unfolding distinctFrom
 distinctFrom-most held [] = omega arith
 distinctFrom-most held (v ∷ vs) = omega (arith, length-insert v held, distinctFrom-most (insert v held) vs)
@@ -173,7 +173,7 @@ module _ (P : ℤ → Type 0) where
   insert-has v p all-none = all-more p all-none
   insert-has v p (all-more {x} {xs} q r) = has-step v x xs p q r (insert-has v p r) (ltZ x v) (ltZ v x)
 
-  distinctFrom-has : {held vs : List ℤ} → All P held → All P vs → All P (distinctFrom held vs)
+  pub distinctFrom-has : {held vs : List ℤ} → All P held → All P vs → All P (distinctFrom held vs)
   unfolding distinctFrom
   distinctFrom-has h all-none = h
   distinctFrom-has h (all-more {x} p r) = distinctFrom-has (insert-has x p h) r
@@ -188,16 +188,6 @@ pub distinct-keys : {column : List ℤ} → All Key column → All Key (distinct
 distinct-keys ks = distinct-has Key ks
 
 -- ---- they rise
-
--- v is less than the first of a list, if there is one
-abbrev pub Under : ℤ → List ℤ → Type 0
-Under v [] = Unit {0}
-Under v (x ∷ xs) = ltZ v x ≡ true
-
--- each value is less than the next
-abbrev pub Rising : List ℤ → Type 0
-Rising [] = Unit {0}
-Rising (x ∷ xs) = Under x xs × Rising xs
 
 under-step :
     (v x y : ℤ) (ys : List ℤ) → ltZ x v ≡ true → ltZ x y ≡ true → (t u : Bool)
@@ -225,7 +215,7 @@ unfolding insert
 insert-rising v [] r = (tt, tt)
 insert-rising v (x ∷ xs) r = rising-step v x xs r (insert-rising v xs (r .1)) (ltZ x v) (ltZ v x) refl refl
 
-distinctFrom-rising : (held vs : List ℤ) → Rising held → Rising (distinctFrom held vs)
+pub distinctFrom-rising : (held vs : List ℤ) → Rising held → Rising (distinctFrom held vs)
 unfolding distinctFrom
 distinctFrom-rising held [] r = r
 distinctFrom-rising held (v ∷ vs) r = distinctFrom-rising (insert v held) vs (insert-rising v held r)

@@ -1,4 +1,4 @@
--- Each turn packs the codes of a block: the bytes of the values that are left are still to come (`Placing`). The block keeps its length.
+-- Each turn packs the codes of a block: the bytes of the values that are left are still to come (`Placing`). The block and the guesses keep their lengths.
 use mathlib.Core.Path.{_≡_, refl, sym, _∙_}
 use Prim.Native.Nat.{_-_}
 use native.Mathlib.Omega.{arith}
@@ -11,7 +11,8 @@ use Rattle.dictionary.proofs.writing.pack_codes.Statement.{statement}
 use Rattle.dictionary.proofs.writing.pack_codes.Tie as tie
 
 abbrev Inv-loop : tie.InvT-loop
-Inv-loop column entries width guesses₀ out₀ start block₀ at₀ i₀ guesses out block at i = (length block ≡ 128) × Placing (codeOf entries) width column out₀ start out at i
+Inv-loop column entries width guesses₀ out₀ start block₀ at₀ i₀ guesses out block at i =
+    (length block ≡ 128) × (length guesses ≡ length guesses₀) × Placing (codeOf entries) width column out₀ start out at i
 
 abbrev μ-loop : tie.MeasureT-loop
 μ-loop column entries width guesses₀ out₀ start block₀ at₀ i₀ guesses out block at i = length column - i
@@ -29,20 +30,22 @@ front c = length-take-le (turn c .block-len .result) (c .put-codes .last .1 .1 .
 put-codes-requires : tie.Need-put-codes-requires Inv-loop μ-loop
 put-codes-requires c κs =
     let t = c .before .before .before in
-    (simp length-take (omega (arith, t .before .before .loop .inv .0, t .block-len .ensures)), t .before .before .before .before .pre .2)
+    let l = t .before .before in
+    let start = l .before .before .before in
+    (simp length-take (omega (arith, l .loop .inv .0, t .block-len .ensures)), omega (arith, l .loop .inv .1, start .pre .2), start .pre .3)
 
 loop-again : tie.Need-loop-again Inv-loop μ-loop
 loop-again c =
-    let d = c .before .before .before .before .before .before in
+    let d = c .before .before .before .before .before .before .before .before in
     let t = turn d in
     let l = t .before .before .loop in
     let p = c .before .before .put-packed in
-    let pre = t .before .before .before .before .pre in
-    let values = placing-block _ _ _ (l .inv .1) (t .block-len .ensures) (l .block) (l .inv .0) (d .put-codes .ensures) in
-    (long d, placing-put _ _ _ (l .inv .1) (t .block-len .ensures) (pre .0) (pre .1) values (p .ensures .0) (p .ensures .1))
+    let pre = t .before .before .before .before .before .pre in
+    let values = placing-block _ _ _ (l .inv .2) (t .block-len .ensures) (l .block) (l .inv .0) (d .put-codes .ensures) in
+    (long d, d .put-codes .kept .1 .1 .0 ∙ l .inv .1, placing-put _ _ _ (l .inv .2) (t .block-len .ensures) (pre .0) (pre .1) values (p .ensures .0) (p .ensures .1))
 
 returns : tie.Need-returns Inv-loop μ-loop
-returns c = placing-done _ _ _ (c .before .loop .inv .1) (c .loop-test .left)
+returns c = placing-done _ _ _ (c .before .loop .inv .2) (c .loop-test .left)
 
 pub pack-codes-spec : {M : Type 1} → statement M
 pack-codes-spec =
@@ -50,7 +53,7 @@ pack-codes-spec =
     (tie.spec
     Inv-loop
     μ-loop
-    (λ c. (refl, placing-none _ _ _))
+    (λ c. (refl, refl, placing-none _ _ _))
     (λ c. search needs)
     (λ c κs. search needs)
     (λ c. search needs)
@@ -61,9 +64,10 @@ pack-codes-spec =
     (λ c. search needs)
     put-codes-requires
     (λ c. search needs)
-    (λ c. sym (front (c .before .before)))
+    (λ c. sym (front (c .before .before .before .before)))
     (λ c κs. search needs)
     (λ c. search needs)
     loop-again
-    (λ c. c .before .loop .inv .1 .storing .long)
+    (λ c. c .before .loop .inv .1)
+    (λ c. c .before .loop .inv .2 .storing .long)
     returns)

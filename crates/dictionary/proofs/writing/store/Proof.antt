@@ -1,5 +1,4 @@
--- The total, the entries, the width byte and the codes, one after the other, are the body (`Body`). What is asked after the guesses are made is answered without a
--- search, which would look into all of them.
+-- The total, the entries, the width byte and the codes, one after the other, are the body (`Body`).
 use mathlib.Core.Path.{ap, _∙_}
 use native.Mathlib.Omega.{arith}
 use lib.ListN.{length}
@@ -19,8 +18,8 @@ first c = c .before .before .before .before
 abbrev second : tie.After-code-width → tie.After-put-entries
 second c = c .before .before .before
 
-abbrev third : tie.After-pack-codes-arg → tie.After-code-width
-third c = c .before .before
+abbrev third : tie.After-store-codes-arg → tie.After-code-width
+third c = c .before
 
 abbrev entry : tie.After-put-uvarint → tie.Start
 entry c = c .before .before .before
@@ -38,8 +37,8 @@ slice-write-out c =
     let start = entry t in
     width-room (now (start .args .entries)) (now (start .args .column)) (now (start .args .out)) (start .args .start) (start .pre .0) (t .put-uvarint .ensures) (e .put-entries .ensures)
 
-add-pack-codes : tie.Need-add-pack-codes
-add-pack-codes c =
+add-store-codes : tie.Need-add-store-codes
+add-store-codes c =
     let e = second (third c) in
     let t = first e in
     let start = entry t in
@@ -49,8 +48,8 @@ add-pack-codes c =
       more-long (now (start .args .entries)) (now (start .args .column)) (now (start .args .out)) (start .args .start) (start .pre .0) (t .put-uvarint .ensures) (e .put-entries .ensures),
     )
 
-pack-codes-requires : tie.Need-pack-codes-requires
-pack-codes-requires c κs =
+store-codes-requires : tie.Need-store-codes-requires
+store-codes-requires c κs =
     let w = third c in
     let e = second w in
     let t = first e in
@@ -66,7 +65,7 @@ returns c =
     let t = first e in
     let start = entry t in
     body-stored (now (start .args .entries)) (now (start .args .column)) (now (start .args .out)) (start .args .start) (start .pre .0) (t .put-uvarint .ensures) (e .put-entries .ensures)
-    (w .code-width .ensures) (c .before .before .pack-codes .ensures)
+    (w .code-width .ensures) (c .before .before .store-codes .ensures)
 
 same-length : tie.Need-same-length
 same-length c = ap length (returns c) ∙ simp length-sets
@@ -80,7 +79,7 @@ store-spec =
     (λ c κs. search needs)
     (λ c. omega (arith, c .code-width .ensures, codeWidth-le (length (now (entry (first (second c)) .args .entries)))))
     slice-write-out
-    add-pack-codes
-    pack-codes-requires
+    add-store-codes
+    store-codes-requires
     same-length
     returns)

@@ -2,12 +2,14 @@
 use borrow.Author.Needs.{needs}
 use borrow.Author.Tests.{le-ltb}
 use mir.Facts.{toZ-ofZ}
+use Rattle.distinct.specs.Search.{standsAt}
 use Rattle.distinct.proofs.Machine.{read-back}
-use Rattle.distinct.proofs.Guesses.{stands-here}
-use Rattle.distinct.proofs.guess.stands.Statement.{statement}
-use Rattle.distinct.proofs.guess.stands.Tie as tie
+use Rattle.distinct.proofs.Standing.{stands-here}
+use Rattle.distinct.proofs.stands.Statement.{statement}
+use Rattle.distinct.proofs.stands.Tie as tie
 
 returns : tie.Need-returns
+unfolding standsAt
 returns c = rw (le-ltb _ _ (c .if1 .taken))
 
 returns-2 : tie.Need-returns-2

@@ -1,6 +1,6 @@
--- `search` meets its contract: each turn keeps `Searching`.
+-- `search` meets its contract: each turn keeps `Halving`.
 use mathlib.Core.Path.{ap, _∙_}
-use Prim.Native.Nat.{_-_, _<_}
+use Prim.Native.Nat.{ℕ, _-_, _<_}
 use native.Mathlib.Omega.{arith}
 use mir.Syntax.{w64}
 use mir.Val.{toZ}
@@ -8,21 +8,21 @@ use mir.Facts.{toZ-ofZ}
 use lib.ListN.{length}
 use lib.Pow.{pow-pos}
 use borrow.Author.Needs.{needs}
-use Rattle.format.specs.Dictionary.{codeOf}
 use Rattle.format.proofs.numbers.Widths.{width-le}
+use Rattle.distinct.specs.Search.{searched}
 use Rattle.distinct.proofs.Machine.{read-back}
-use Rattle.distinct.proofs.Searching.{Searching, searching-none, width-some, width-power, searching-first, searching-middle, searching-half, searching-last, searching-most, searching-done}
-use Rattle.distinct.proofs.search.search.Statement.{statement}
-use Rattle.distinct.proofs.search.search.Tie as tie
+use Rattle.distinct.proofs.Searching.{width-some, width-power, searched-none, Halving, halving-first, halving-middle, halving-half, halving-last, halving-most, halving-done}
+use Rattle.distinct.proofs.search.Statement.{statement}
+use Rattle.distinct.proofs.search.Tie as tie
 
 abbrev Inv-loop : tie.InvT-loop
-Inv-loop values key count left₀ last low₀ left low = (left < 64) × Searching values (toZ w64 key) low left
+Inv-loop values key count left₀ last low₀ left low = (left < 64) × Halving values (toZ w64 key) low left
 
 abbrev μ-loop : tie.MeasureT-loop
 μ-loop values key count left₀ last low₀ left low = left
 
 returns : tie.Need-returns Inv-loop μ-loop
-returns c = λ r. searching-none (c .before .args .values .now) (c .before .args .key) (c .if1 .taken)
+returns c = searched-none (c .before .args .values .now) (c .before .args .key) (c .if1 .taken)
 
 sub-left : tie.Need-sub-left Inv-loop μ-loop
 sub-left c =
@@ -46,12 +46,12 @@ loop-holds : tie.Need-loop-holds Inv-loop μ-loop
 loop-holds c =
     let values = c .before .before .before .before .before .args .values .now in
     let w = c .before .before .before .required-width .ensures in
-    let p = rw (← w) at (width-power (length values) (search needs) (search needs)) in
-    let first = searching-first values _ _ (p .0) (p .1) (c .before .before .power .ensures) (read-back (c .before .begin-arg .given)) (c .begin .ensures) in
+    let p = width-power (length values) (search needs) (search needs) in
+    let first = halving-first values _ (search needs) (p .0) (ap (λ (n : ℕ). n - 1) w) (c .before .before .power .ensures) (read-back (c .before .begin-arg .given)) (c .begin .ensures) in
     (omega (arith, w, width-le (length values)), first)
 
 shared-slice-copy-out-step : tie.Need-shared-slice-copy-out-step Inv-loop μ-loop
-shared-slice-copy-out-step c = searching-middle _ _ (c .before .before .loop .inv .1) (c .before .loop-test .taken) (c .power2 .ensures)
+shared-slice-copy-out-step c = halving-middle _ _ (c .before .before .loop .inv .1) (c .before .loop-test .taken) (c .power2 .ensures)
 
 add-middle : tie.Need-add-middle Inv-loop μ-loop
 add-middle c = omega (arith, shared-slice-copy-out-step c)
@@ -63,13 +63,13 @@ loop-again : tie.Need-loop-again Inv-loop μ-loop
 loop-again c =
     let l = c .before .before .before .before .loop in
     let taken = c .before .before .before .loop-test .taken in
-    (search needs, searching-half _ _ (l .inv .1) taken (c .before .before .power2 .ensures) (read-back (c .before .step-arg .given)) (c .step .ensures))
+    (search needs, halving-half _ _ (l .inv .1) taken (c .before .before .power2 .ensures) (read-back (c .before .step-arg .given)) (c .step .ensures))
 
 add-low : tie.Need-add-low Inv-loop μ-loop
 add-low c = omega (arith, loop-again c .1 .room)
 
 shared-slice-copy-out-step-2 : tie.Need-shared-slice-copy-out-step-2 Inv-loop μ-loop
-shared-slice-copy-out-step-2 c = searching-last _ _ (c .before .loop .inv .1) (c .loop-test .left)
+shared-slice-copy-out-step-2 c = halving-last _ _ (c .before .loop .inv .1) (c .loop-test .left)
 
 mul-step-2 : tie.Need-mul-step-2 Inv-loop μ-loop
 mul-step-2 c = omega (arith, shared-slice-copy-out-step-2 c)
@@ -77,12 +77,12 @@ mul-step-2 c = omega (arith, shared-slice-copy-out-step-2 c)
 add-result : tie.Need-add-result Inv-loop μ-loop
 add-result c =
     let l = c .before .before .before .loop in
-    omega (arith, searching-most _ _ (l .inv .1) (c .before .before .loop-test .left) (read-back (c .before .step-arg2 .given)) (c .step2 .ensures))
+    omega (arith, halving-most _ _ (l .inv .1) (c .before .before .loop-test .left) (read-back (c .before .step-arg2 .given)) (c .step2 .ensures))
 
 returns-2 : tie.Need-returns-2 Inv-loop μ-loop
 returns-2 c =
     let l = c .before .before .before .loop in
-    λ r. searching-done _ _ (l .inv .1) (c .before .before .loop-test .left) (read-back (c .before .step-arg2 .given)) (c .step2 .ensures) r ∙ ap (codeOf _) (toZ-ofZ (c .before .before .before .before .before .before .before .before .before .fits .key))
+    halving-done _ _ (l .inv .1) (c .before .before .loop-test .left) (read-back (c .before .step-arg2 .given)) (c .step2 .ensures) ∙ ap (searched _) (toZ-ofZ (c .before .before .before .before .before .before .before .before .before .fits .key))
 
 pub search-spec : {M : Type 1} → statement M
 search-spec =

@@ -2,8 +2,8 @@
 use lib.Signed.{ltZ}
 use borrow.Author.Needs.{needs}
 use Rattle.distinct.proofs.Machine.{compared, test-shifted}
-use Rattle.distinct.proofs.search.step.Statement.{statement}
-use Rattle.distinct.proofs.search.step.Tie as tie
+use Rattle.distinct.proofs.halving.step.Statement.{statement}
+use Rattle.distinct.proofs.halving.step.Tie as tie
 
 returns : tie.Need-returns
 returns c = let f = c .fits in rw (compared (f .value) (f .key)) (test-shifted (c .args .k) (c .pre) (ltZ (c .args .value) (c .args .key)))

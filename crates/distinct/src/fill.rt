@@ -1,0 +1,70 @@
+// Collecting distinct values. New keys wait, rising, in a buffer beside the scratch, and when it is full it is merged into the
+// values that are held, so a key moves few others. A table `seen` has, for every slot, a key that was met: it answers for keys
+// that come again soon. What it does not know is searched for among the values held and those that wait. So whatever the keys,
+// and also where all of them have one slot, n keys cost at most 2n searches, at most as many shifts in the buffer as values are
+// taken in, and a merge for every buffer that is full.
+ghost use mathlib.Core.Path.{_≡_};
+ghost use Prim.Native.Nat.{ℕ, _≤_, _<_};
+ghost use lib.IntN.{pos};
+ghost use lib.ListN.{length, getD};
+ghost use Rattle.format.specs.Answers.{answerOf};
+ghost use Rattle.format.specs.Distinct.{scratchNeeded, collected};
+ghost use Rattle.distinct.specs.Collect.{countOutcome};
+use crate::insert::gather;
+use crate::known::note;
+use crate::merge::merge;
+use format::Answer;
+use format::limits::MAX_DICTIONARY_CARDINALITY;
+
+// Collects the distinct values in a scratch that is long enough. To begin with, the first key waits, and it is in every slot.
+fn fill(column: &[i64], scratch: &mut [i64], pending: &mut [i64], seen: &mut [i64]) -> Answer
+    requires { ⌜ (scratchNeeded (now column) ≤ length (now scratch)) × (0 < length (now column)) × (1 < length (now pending)) × (0 < length (now seen)) ⌝ }
+    requires { ⌜ getD (now pending) 0 (pos 0) ≡ getD (now column) 0 (pos 0) ⌝ }
+    requires { ⌜ ((k : ℕ) → k < length (now seen) → getD (now seen) k (pos 0) ≡ getD (now column) 0 (pos 0)) ⌝ }
+    ensures { λ r. ⌜ r ≡ answerOf (countOutcome (now (column .entry))) ⌝ }
+    ensures { λ _. ⌜ now (scratch .exit) ≡ collected (now (column .entry)) (now (scratch .entry)) ⌝ }
+{
+    let mut held = 0;
+    let mut waiting = 1;
+    let mut i = 1;
+    while i < column.len() {
+        let key = column[i];
+        i += 1;
+        if !note(seen, key) {
+            let more = gather(scratch, held, pending, waiting, key);
+            if more > MAX_DICTIONARY_CARDINALITY - held {
+                merge(scratch, held, &pending[..waiting]);
+                return Answer::Refused(format::refusal::TOO_MANY_DISTINCT, 0);
+            }
+            waiting = more;
+            if waiting == pending.len() {
+                merge(scratch, held, pending);
+                held += waiting;
+                waiting = 0;
+            }
+        }
+    }
+    merge(scratch, held, &pending[..waiting]);
+    Answer::Accepted(held + waiting)
+}
+
+// The same with a buffer and a table of its own: small ones for few keys, since they are filled first.
+pub(crate) fn fill_by_size(column: &[i64], scratch: &mut [i64]) -> Answer
+    requires { ⌜ (scratchNeeded (now column) ≤ length (now scratch)) × (0 < length (now column)) ⌝ }
+    ensures { λ r. ⌜ r ≡ answerOf (countOutcome (now (column .entry))) ⌝ }
+    ensures { λ _. ⌜ now (scratch .exit) ≡ collected (now (column .entry)) (now (scratch .entry)) ⌝ }
+{
+    let first = column[0];
+    if column.len() <= 64 {
+        let mut pending = [first; 64];
+        let mut seen = [first; 64];
+        return fill(column, scratch, &mut pending, &mut seen);
+    }
+    let mut pending = [first; 256];
+    if column.len() <= 2048 {
+        let mut seen = [first; 512];
+        return fill(column, scratch, &mut pending, &mut seen);
+    }
+    let mut seen = [first; 32768];
+    fill(column, scratch, &mut pending, &mut seen)
+}
