@@ -2,7 +2,7 @@
 -- is the distinct values.
 use mathlib.Core.Path.{_≡_, refl, sym, ap, _∙_}
 use mathlib.Core.Bool.{not}
-use mathlib.Core.List.{List, [], _∷_}
+use mathlib.Core.List.{List}
 use Prim.Native.Nat.{ℕ, _≤_, _<_}
 use native.Mathlib.Omega.{arith}
 use lib.IntN.{ℤ}
@@ -12,7 +12,7 @@ use borrow.Author.Tests.{le-leb, lt-leb, leb-true, not-true}
 use Rattle.format.specs.Outcome.{Outcome, refused, ok, check}
 use Rattle.format.specs.Encodings.{encodingOf, encodings, maxChunkElements, maxDictionaryCardinality}
 use Rattle.format.specs.Answers.{answerOf, stored}
-use Rattle.format.specs.Distinct.{distinctFrom, distinct, tooManyDistinct, cappedDistinctFrom, cappedDistinct, scratchNeeded, scratchCheck, collected}
+use Rattle.format.specs.Distinct.{distinct, tooManyDistinct, scratchNeeded, scratchCheck, collected}
 use Rattle.format.specs.Write.{writeChecks, writeScratch}
 use Rattle.format.specs.declared.Answer.{Answer}
 use Rattle.format.specs.declared.Answer.the-variants.{Accepted, Refused}
@@ -43,12 +43,6 @@ module _ (column scratch : List ℤ) where
     unfolding collectAnswer collectOutcome scratchCheck
     answers-count h e f =
         (rw (le-leb (length column) maxChunkElements few, le-leb (scratchNeeded column) (length scratch) h) e, f ∙ scratch-filled h)
-
--- no keys: none are counted, and none stored
-pub counted-none : (column scratch : List ℤ) → length column ≡ 0 → (Accepted 0 ≡ answerOf (countOutcome column)) × (scratch ≡ collected column scratch)
-unfolding countOutcome tooManyDistinct distinct distinctFrom collected cappedDistinct cappedDistinctFrom stored
-counted-none [] scratch e = (refl, refl)
-counted-none (x ∷ xs) scratch e = absurd (omega arith)
 
 -- ---- what a caller has
 

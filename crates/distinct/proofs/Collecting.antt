@@ -8,8 +8,8 @@ use native.Mathlib.Numerals.{add-one}
 use native.Mathlib.Omega.{arith}
 use lib.IntN.{ℤ, pos}
 use lib.Dec.{eqb}
-use lib.ListN.{length, getD, set, take, drop, length-take, length-set, take-append-drop}
-use lib.Seq.{take-suc, take-all, length-take-le, drop-append-add, drop-drop, getD-set-same, getD-set-other}
+use lib.ListN.{length, getD, set, take, drop, replicate, length-take, length-set, length-replicate, getD-replicate, take-append-drop}
+use lib.Seq.{take-suc, take-all, length-take-le, drop-append-add, drop-drop, getD-set-same, getD-set-other, getD-take}
 use borrow.Author.Tests.{le-leb, lt-leb, eqb-true, eqb-false}
 use Rattle.format.specs.Encodings.{maxDictionaryCardinality}
 use Rattle.format.specs.Keys.{eqZ}
@@ -17,7 +17,7 @@ use Rattle.format.specs.Answers.{answerOf, stored}
 use Rattle.format.specs.Distinct.{insert, distinctFrom, distinct, Rising, scratchNeeded, collected}
 use Rattle.format.specs.declared.Answer.the-variants.{Accepted, Refused}
 use Rattle.format.proofs.numbers.Order.{eqZ-true}
-use Rattle.format.proofs.numbers.Distinct.{length-insert, distinctFrom-grows, length-distinct, not-tooManyDistinct, tooManyDistinct-is, cappedDistinct-all, cappedDistinct-first, insert-rising, distinct-rising}
+use Rattle.format.proofs.numbers.Distinct.{insert-grows, length-insert, distinctFrom-grows, length-distinct, not-tooManyDistinct, tooManyDistinct-is, cappedDistinct-all, cappedDistinct-first, insert-rising, distinct-rising}
 use Rattle.format.proofs.plan.Checks.{length-stored, take-stored}
 use Rattle.distinct.specs.Collect.{countOutcome, has, taken, gathered, gatheredCount}
 use Rattle.distinct.specs.Merge.{merged, Mergeable}
@@ -62,7 +62,69 @@ stored-over front longer buffer h =
     ∙ drop-drop (length longer - length front) (length front) buffer
     ∙ ap (λ (n : ℕ). drop n buffer) (sym more))
 
--- ---- the walk
+-- the front of a buffer that was made of one key
+module _ (n : ℕ) (v : ℤ) (wait : ℕ) (h : wait ≤ n) where
+  pub length-made : length (take wait (replicate n v)) ≡ wait
+  length-made = length-take-le wait (replicate n v) (rw (length-replicate n v) h)
+
+  pub first-made : 0 < wait → getD (take wait (replicate n v)) 0 (pos 0) ≡ v
+  first-made k = getD-take wait (replicate n v) 0 (pos 0) k ∙ getD-replicate n 0 v (pos 0) (omega arith)
+
+-- ---- few keys, each taken in at once
+
+-- all keys: their number is the answer, and the scratch has them
+counted : (column old : List ℤ) {held i : ℕ} {s : List ℤ} → held ≡ length (distinct (take i column)) → held ≤ maxDictionaryCardinality → s ≡ stored (distinct (take i column)) old
+    → length column ≤ i → (Accepted held ≡ answerOf (countOutcome column)) × (s ≡ collected column old)
+unfolding collected countOutcome
+counted column old {held} {i} count few are h =
+    let all : take i column ≡ column = take-all i column h in
+    let is : held ≡ length (distinct column) = count ∙ ap (λ (l : List ℤ). length (distinct l)) all in
+    let most : length (distinct column) ≤ maxDictionaryCardinality = rw (← is) few in (
+      rw (not-tooManyDistinct column most) (ap Accepted is),
+      are ∙ ap (λ (l : List ℤ). stored (distinct l) old) all ∙ ap (λ (l : List ℤ). stored l old) (sym (cappedDistinct-all column most)),
+    )
+
+module _ (column old : List ℤ) where
+  pub record Taking (s : List ℤ) (held i : ℕ) : Type 0 where
+    pub upto : i ≤ length column
+    pub count : held ≡ length (distinct (take i column))
+    pub long : length s ≡ length old
+    pub are : s ≡ stored (distinct (take i column)) old
+
+  pub taking-none : Taking old 0 0
+  unfolding distinct distinctFrom stored
+  taking-none = record { upto = omega arith; count = refl; long = refl; are = refl }
+
+  module _ (few : length column ≤ maxDictionaryCardinality) (room : length column ≤ length old) {s : List ℤ} {held i : ℕ} (t : Taking s held i) where
+    held-are : take held s ≡ distinct (take i column)
+    held-are = ap (λ (n : ℕ). take n s) (t .count) ∙ ap (take (length (distinct (take i column)))) (t .are) ∙ take-stored (distinct (take i column)) old
+
+    held-most : held ≤ i
+    held-most = omega (arith, t .count, t .upto, length-distinct (take i column), length-take i column)
+
+    pub taking-asks : i < length column → (held ≤ maxDictionaryCardinality) × (held < length s) × Rising (take held s)
+    taking-asks h = (omega (arith, held-most), omega (arith, held-most, t .long), rw held-are (distinct-rising (take i column)))
+
+    pub taking-more : i < length column → {v : ℤ} → v ≡ getD column i (pos 0) → {many : ℕ} → many ≡ length (insert v (take held s))
+        → {after : List ℤ} → after ≡ stored (taken maxDictionaryCardinality v (take held s)) s → Taking after many (i + 1)
+    unfolding taken
+    taking-more h {v} e {many} m {after} a =
+        let next : insert v (take held s) ≡ distinct (take (i + 1) column) =
+        ap (λ (x : ℤ). insert x (take held s)) e ∙ ap (insert (getD column i (pos 0))) held-are ∙ sym (distinct-more column i h) in
+        let fits : length (distinct (take (i + 1) column)) ≤ length old = omega (arith, length-distinct (take (i + 1) column), length-take (i + 1) column) in
+        let most : length (insert v (take held s)) ≤ maxDictionaryCardinality = omega (arith, fits, ap length next, length-distinct (take (i + 1) column), length-take (i + 1) column) in
+        let are : after ≡ stored (distinct (take (i + 1) column)) old =
+        a
+        ∙ ap (λ (b : Bool). stored (cond b (insert v (take held s)) (take held s)) s) (le-leb (length (insert v (take held s))) maxDictionaryCardinality most)
+        ∙ ap (λ (l : List ℤ). stored l s) next
+        ∙ ap (stored (distinct (take (i + 1) column))) (t .are)
+        ∙ stored-over (distinct (take i column)) (distinct (take (i + 1) column)) old (omega (arith, ap length next, ap length held-are, insert-grows v (take held s))) in
+        record { upto = omega arith; count = m ∙ ap length next; long = ap length are ∙ length-stored (distinct (take (i + 1) column)) old fits; are = are }
+
+    pub taking-done : length column ≤ i → (Accepted held ≡ answerOf (countOutcome column)) × (s ≡ collected column old)
+    taking-done h = counted column old (t .count) (omega (arith, held-most, t .upto)) (t .are) h
+
+-- ---- many keys
 
 module _ (column old : List ℤ) where
   -- the distinct values of the first i
@@ -158,14 +220,7 @@ module _ (column old : List ℤ) where
 
       -- all keys
       pub gathering-done : length column ≤ i → (Accepted (held + waiting) ≡ answerOf (countOutcome column)) × (after ≡ collected column old)
-      unfolding collected countOutcome
-      gathering-done h =
-          let all : take i column ≡ column = take-all i column h in
-          let is : held + waiting ≡ length (distinct column) = g .count ∙ ap (λ (l : List ℤ). length (distinct l)) all in
-          let most : length (distinct column) ≤ maxDictionaryCardinality = rw (← is) (g .few) in (
-            rw (not-tooManyDistinct column most) (ap Accepted is),
-            merged-are ∙ ap (λ (l : List ℤ). stored (distinct l) old) all ∙ ap (λ (l : List ℤ). stored l old) (sym (cappedDistinct-all column most)),
-          )
+      gathering-done h = counted column old (g .count) (g .few) merged-are h
 
     -- ---- a key more
 

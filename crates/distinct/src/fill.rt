@@ -7,10 +7,12 @@ ghost use mathlib.Core.Path.{_≡_};
 ghost use Prim.Native.Nat.{ℕ, _≤_, _<_};
 ghost use lib.IntN.{pos};
 ghost use lib.ListN.{length, getD};
+ghost use Rattle.format.specs.Encodings.{maxDictionaryCardinality};
 ghost use Rattle.format.specs.Answers.{answerOf};
 ghost use Rattle.format.specs.Distinct.{scratchNeeded, collected};
 ghost use Rattle.distinct.specs.Collect.{countOutcome};
 use crate::insert::gather;
+use crate::insert::take_in;
 use crate::known::note;
 use crate::merge::merge;
 use format::Answer;
@@ -48,23 +50,27 @@ fn fill(column: &[i64], scratch: &mut [i64], pending: &mut [i64], seen: &mut [i6
     Answer::Accepted(held + waiting)
 }
 
-// The same with a buffer and a table of its own: small ones for few keys, since they are filled first.
-pub(crate) fn fill_by_size(column: &[i64], scratch: &mut [i64]) -> Answer
-    requires { ⌜ (scratchNeeded (now column) ≤ length (now scratch)) × (0 < length (now column)) ⌝ }
+// The same with a buffer and a table of its own, for `wait` keys to wait at most.
+pub(crate) fn fill_many(column: &[i64], scratch: &mut [i64], wait: usize) -> Answer
+    requires { ⌜ (scratchNeeded (now column) ≤ length (now scratch)) × (0 < length (now column)) × (1 < wait) × (wait ≤ 256) ⌝ }
     ensures { λ r. ⌜ r ≡ answerOf (countOutcome (now (column .entry))) ⌝ }
     ensures { λ _. ⌜ now (scratch .exit) ≡ collected (now (column .entry)) (now (scratch .entry)) ⌝ }
 {
     let first = column[0];
-    if column.len() <= 64 {
-        let mut pending = [first; 64];
-        let mut seen = [first; 64];
-        return fill(column, scratch, &mut pending, &mut seen);
-    }
     let mut pending = [first; 256];
-    if column.len() <= 2048 {
-        let mut seen = [first; 512];
-        return fill(column, scratch, &mut pending, &mut seen);
-    }
     let mut seen = [first; 32768];
-    fill(column, scratch, &mut pending, &mut seen)
+    fill(column, scratch, &mut pending[..wait], &mut seen)
+}
+
+// The same for few keys: each is taken in at once, with no buffer and no table, which would have to be filled first.
+pub(crate) fn fill_few(column: &[i64], scratch: &mut [i64]) -> Answer
+    requires { ⌜ (length (now column) ≤ maxDictionaryCardinality) × (length (now column) ≤ length (now scratch)) ⌝ }
+    ensures { λ r. ⌜ r ≡ answerOf (countOutcome (now (column .entry))) ⌝ }
+    ensures { λ _. ⌜ now (scratch .exit) ≡ collected (now (column .entry)) (now (scratch .entry)) ⌝ }
+{
+    let mut held = 0;
+    for i in 0..column.len() {
+        held = take_in(scratch, held, MAX_DICTIONARY_CARDINALITY, column[i]);
+    }
+    Answer::Accepted(held)
 }

@@ -9,7 +9,8 @@ ghost use Rattle.format.specs.Distinct.{scratchNeeded, collected};
 ghost use Rattle.format.specs.Write.{writeScratch};
 ghost use Rattle.distinct.specs.Collect.{countOutcome, collectAnswer};
 ghost use Rattle.distinct.specs.Search.{searched, slotOf, standsAt};
-use crate::fill::fill_by_size;
+use crate::fill::fill_few;
+use crate::fill::fill_many;
 use crate::halving::begin;
 use crate::halving::power;
 use crate::halving::step;
@@ -92,8 +93,11 @@ pub fn collect(column: &[i64], scratch: &mut [i64]) -> Answer
     if scratch.len() < places_needed(column.len()) {
         return Answer::Refused(format::refusal::SCRATCH_TOO_SHORT, 0);
     }
-    if column.len() == 0 {
-        return Answer::Accepted(0);
+    if column.len() <= 384 {
+        return fill_few(column, scratch);
     }
-    fill_by_size(column, scratch)
+    if column.len() <= 4096 {
+        return fill_many(column, scratch, 128);
+    }
+    fill_many(column, scratch, 256)
 }

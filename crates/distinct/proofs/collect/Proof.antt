@@ -5,7 +5,7 @@ use lib.ListN.{length}
 use denote.Ref.{now}
 use borrow.Author.Needs.{needs}
 use Rattle.format.specs.Distinct.{scratchNeeded}
-use Rattle.distinct.proofs.Answering.{answers-above, answers-short, answers-count, counted-none}
+use Rattle.distinct.proofs.Answering.{answers-above, answers-short, answers-count}
 use Rattle.distinct.proofs.collect.Statement.{statement}
 use Rattle.distinct.proofs.collect.Tie as tie
 
@@ -21,17 +21,35 @@ room c = omega (arith, c .before .places-needed .ensures, c .if2 .left)
 
 returns-3 : tie.Need-returns-3
 returns-3 c =
-    let n = counted-none _ _ (c .if3 .taken) in
-    answers-count _ _ (c .before .before .before .if1 .left) (room (c .before)) (n .0) (n .1)
-
-fill-by-size-requires : tie.Need-fill-by-size-requires
-fill-by-size-requires c κs = (room (c .before .before), search needs)
+    let asked = c .before .before .before .before in
+    let told = c .before .fill-few .ensures in
+    answers-count _ _ (asked .before .before .if1 .left) (room asked) (told .0) (told .1)
 
 returns-4 : tie.Need-returns-4
 returns-4 c =
-    let asked = c .before .before .before .before in
-    let told = c .before .fill-by-size .ensures in
+    let asked = c .before .before .before .before .before in
+    let told = c .before .fill-many .ensures in
+    answers-count _ _ (asked .before .before .if1 .left) (room asked) (told .0) (told .1)
+
+returns-5 : tie.Need-returns-5
+returns-5 c =
+    let asked = c .before .before .before .before .before in
+    let told = c .before .fill-many2 .ensures in
     answers-count _ _ (asked .before .before .if1 .left) (room asked) (told .0) (told .1)
 
 pub collect-spec : {M : Type 1} → statement M
-collect-spec = tie.close (tie.spec returns (λ c κs. search needs) returns-2 returns-3 fill-by-size-requires (λ c. search needs) returns-4)
+collect-spec =
+    tie.close
+    (tie.spec
+    returns
+    (λ c κs. search needs)
+    returns-2
+    (λ c κs. search needs)
+    (λ c. search needs)
+    returns-3
+    (λ c κs. search needs)
+    (λ c. search needs)
+    returns-4
+    (λ c κs. search needs)
+    (λ c. search needs)
+    returns-5)
