@@ -7,12 +7,12 @@ use Prim.Native.Nat.{ℕ, suc, _+_, _≤_, _<_, suc-le-suc, zero-le}
 use native.Mathlib.Nat.{le-of-suc-le-suc}
 use native.Mathlib.Numerals.{add-one}
 use native.Mathlib.Omega.{arith}
-use lib.IntN.{ℤ, pos, negsuc}
+use lib.IntN.{ℤ, pos}
 use lib.Dec.{leb}
 use lib.Signed.{ltZ}
 use lib.ListN.{length, getD, take, drop, length-append, take-append-drop}
 use lib.Seq.{slice, length-take-le, length-slice, take-take}
-use borrow.Author.Tests.{le-leb, lt-leb, eq-eqb}
+use borrow.Author.Tests.{le-leb, lt-leb}
 use Rattle.format.specs.Keys.{eqZ}
 use Rattle.format.specs.Answers.{stored}
 use Rattle.format.specs.Distinct.{insert}

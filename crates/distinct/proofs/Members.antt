@@ -1,19 +1,17 @@
 -- Which keys a list has, as a test; and inserting by it. A key that a rising list has is not inserted again, any other makes the list longer by one, and the order of two
 -- insertions does not matter. So keys that are inserted one after the other may be gathered in a list of their own first, and that one be inserted.
 use mathlib.Core.Path.{_≡_, refl, sym, ap, _∙_}
-use mathlib.Core.Bool.{Bool, true, false, cond, _||_}
-use mathlib.Core.List.{List, [], _∷_, _++_}
-use Prim.Native.Nat.{ℕ, zero, suc, _<_}
-use native.Mathlib.Nat.{le-of-suc-le-suc}
+use mathlib.Core.Bool.{Bool, true, false, _||_}
+use mathlib.Core.List.{List, [], _∷_}
+use Prim.Native.Nat.{ℕ, suc}
 use native.Mathlib.Omega.{arith}
 use lib.IntN.{ℤ, pos, negsuc}
 use lib.Signed.{ltZ}
-use lib.ListN.{length, getD}
+use lib.ListN.{length}
 use borrow.Author.Tests.{eq-eqb}
 use Rattle.format.specs.Keys.{eqZ}
-use Rattle.format.specs.Distinct.{insert, distinctFrom, Under, Rising}
+use Rattle.format.specs.Distinct.{insert, distinctFrom, Rising}
 use Rattle.format.proofs.numbers.Order.{ltZ-trans, ltZ-neither, ltZ-self, eqZ-true}
-use Rattle.format.proofs.numbers.Distinct.{distinctFrom-rising}
 use Rattle.distinct.specs.Collect.{has}
 
 -- ---- the order of two keys

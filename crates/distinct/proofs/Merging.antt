@@ -14,7 +14,7 @@ use lib.Seq.{take-suc, drop-cons, take-set-le, drop-set-lt, getD-set-same, lengt
 use borrow.Author.Tests.{eq-eqb, ne-eqb}
 use Rattle.format.specs.Keys.{eqZ}
 use Rattle.format.specs.Distinct.{insert, distinctFrom, Rising}
-use Rattle.format.proofs.numbers.All.{All, all-none, all-more, all-imp}
+use Rattle.format.proofs.numbers.All.{All, all-none, all-more}
 use Rattle.format.proofs.numbers.Order.{ltZ-trans}
 use Rattle.format.proofs.numbers.Distinct.{distinctFrom-most, distinctFrom-has, distinctFrom-rising}
 use Rattle.distinct.specs.Collect.{has}

@@ -8,7 +8,7 @@ use lib.Dec.{leb}
 use lib.ListN.{length}
 use Rattle.format.specs.Keys.{eqZ}
 use Rattle.format.specs.Outcome.{Outcome, ok, check, _>>=_}
-use Rattle.format.specs.Encodings.{maxChunkElements, maxDictionaryCardinality}
+use Rattle.format.specs.Encodings.{maxChunkElements}
 use Rattle.format.specs.Answers.{answerOf}
 use Rattle.format.specs.Distinct.{insert, distinct, tooManyDistinct, scratchCheck}
 use Rattle.format.specs.declared.Answer.{Answer}

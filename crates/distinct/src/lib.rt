@@ -1,13 +1,11 @@
 // The distinct values of a column, rising, at the front of a lent scratch, and a search among them: the Rust's `HashSet` in
 // stats.rs, and the sorted `Vec` and `partition_point` of its DictionaryCodec.
 ghost use mathlib.Core.Path.{_≡_};
-ghost use Prim.Native.Nat.{min, _≤_};
+ghost use Prim.Native.Nat.{min};
 ghost use lib.ListN.{length};
 ghost use Rattle.format.specs.Encodings.{maxDictionaryCardinality};
-ghost use Rattle.format.specs.Answers.{answerOf};
-ghost use Rattle.format.specs.Distinct.{scratchNeeded, collected};
 ghost use Rattle.format.specs.Write.{writeScratch};
-ghost use Rattle.distinct.specs.Collect.{countOutcome, collectAnswer};
+ghost use Rattle.distinct.specs.Collect.{collectAnswer};
 ghost use Rattle.distinct.specs.Search.{searched, slotOf, standsAt};
 use crate::fill::fill_few;
 use crate::fill::fill_many;

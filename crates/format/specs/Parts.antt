@@ -8,11 +8,8 @@ use Rattle.format.specs.Outcome.{Outcome, refused, ok, check, _>>=_}
 use Rattle.format.specs.Varint.{Extent}
 use Rattle.format.specs.Packing.{widthAt, packedEnd}
 use Rattle.format.specs.Encodings.{encodingOf, within, maxChunkElements}
-use Rattle.format.specs.Answers.{answerOf}
 use Rattle.format.specs.Header.{Header, unnamed, named, readId, readHeader}
 use Rattle.format.specs.Read.{strictChecks}
-use Rattle.format.specs.declared.Answer.{Answer}
-use Rattle.format.specs.declared.Encoding.{Encoding}
 use Rattle.format.specs.declared.Padded.{Padded}
 use Rattle.format.specs.declared.EncodingAnswer.{EncodingAnswer}
 use Rattle.format.specs.declared.EncodingAnswer.the-variants.{Known, Unknown}

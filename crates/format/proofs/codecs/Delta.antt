@@ -1,7 +1,7 @@
 -- DeltaBinaryPacked: what was written is read back. One block is a varint and packed offsets; blocks in a row are taken by induction on their number; and the
 -- deltas, summed again, are the column.
 use mathlib.Core.Path.{_≡_, refl, sym, ap, ap₂, _∙_}
-use Prim.Native.Nat.{ℕ, zero, suc, _+_, _-_, _*_, _≤_, min}
+use Prim.Native.Nat.{ℕ, zero, suc, _+_, _-_, _*_, min}
 use native.Mathlib.Nat.{add-assoc, add-zero, min-comm}
 use native.Mathlib.Omega.{arith}
 use mathlib.Core.List.{List, _∷_, _++_, map}

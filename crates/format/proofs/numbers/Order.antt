@@ -7,7 +7,7 @@ use native.Mathlib.Nat.{le-trans, le-antisymm, le-of-lt, le-max-left, le-max-rig
 use native.Mathlib.Decide.{decLe}
 use native.Mathlib.Omega.{arith}
 use borrow.Author.Tests.{lt-ltb, le-ltb, ltb-true, eqb-true}
-use lib.IntN.{ℤ, pos, negsuc, _+ℤ_, _-ℤ_, -ℤ-+ℤ-cancel}
+use lib.IntN.{ℤ, pos, negsuc, _-ℤ_, -ℤ-+ℤ-cancel}
 use lib.Dec.{T, leb→le, le→leb, ltb→lt}
 use lib.Signed.{ltZ, leZ, _≤ℤ_, ltZ-no, ≤ℤ-refl}
 use Rattle.format.specs.Keys.{residue, gap, zigzag, lesser, greater, Key, eqZ}

@@ -2,11 +2,11 @@
 -- stored from where it stands, the whole is stored from where it began (`Storing`).
 use mathlib.Core.Path.{_≡_, refl, sym, ap, _∙_}
 use Prim.Native.Nat.{ℕ, suc, _+_, _≤_}
-use native.Mathlib.Nat.{add-zero, add-suc, suc-add, zero-add, le-refl}
+use native.Mathlib.Nat.{add-zero, add-suc, suc-add, zero-add}
 use native.Mathlib.Numerals.{add-one}
 use native.Mathlib.Omega.{arith}
 use mathlib.Core.List.{List, [], _∷_, _++_}
-use lib.ListN.{length, set, take, drop, length-append, length-set}
+use lib.ListN.{length, set, drop, length-append, length-set}
 use lib.Seq.{sets, length-sets, sets-eq}
 use Rattle.format.specs.Answers.{stored}
 

@@ -1,7 +1,6 @@
 -- `last_over` meets its contract: it tests the value before i, if there is one.
 use mathlib.Core.Path.{sym, _∙_}
-use borrow.Author.Needs.{needs, sfits-of}
-use mir.Facts.{toZ-ofZ}
+use borrow.Author.Needs.{needs}
 use Rattle.distinct.proofs.Machine.{compared}
 use Rattle.distinct.proofs.Merging.{over-none, over-some}
 use Rattle.distinct.proofs.merge.last_over.Statement.{statement}

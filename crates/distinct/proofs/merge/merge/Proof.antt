@@ -1,11 +1,8 @@
 -- `merge` meets its contract: each turn keeps `Merging`.
-use mathlib.Core.Path.{_≡_, sym, ap, _∙_}
-use Prim.Native.Nat.{_-_, _<_}
+use mathlib.Core.Path.{_≡_, sym}
 use native.Mathlib.Omega.{arith}
-use lib.IntN.{pos}
-use lib.ListN.{length, getD, take}
-use lib.Seq.{length-take-le, getD-take}
-use denote.Ref.{now}
+use lib.ListN.{length, take}
+use lib.Seq.{length-take-le}
 use borrow.Author.Needs.{needs}
 use Rattle.distinct.proofs.Machine.{read-back}
 use Rattle.distinct.proofs.Merging.{Merging, merging-none, merging-more, merging-done}
