@@ -3,7 +3,7 @@
 use mathlib.Core.Path.{_≡_, refl, sym, ap, _∙_}
 use mathlib.Core.Bool.{Bool, true, false, cond, _||_}
 use mathlib.Core.List.{List, [], _∷_, _++_}
-use Prim.Native.Nat.{ℕ, suc, _+_, _-_, _≤_, _<_}
+use Prim.Native.Nat.{ℕ, _+_, _-_, _≤_, _<_}
 use native.Mathlib.Numerals.{add-one}
 use native.Mathlib.Omega.{arith}
 use lib.IntN.{ℤ, pos}
@@ -17,13 +17,14 @@ use Rattle.format.specs.Answers.{answerOf, stored}
 use Rattle.format.specs.Distinct.{insert, distinctFrom, distinct, Rising, scratchNeeded, collected}
 use Rattle.format.specs.declared.Answer.the-variants.{Accepted, Refused}
 use Rattle.format.proofs.numbers.Order.{eqZ-true}
-use Rattle.format.proofs.numbers.Distinct.{insert-grows, length-insert, distinctFrom-grows, length-distinct, not-tooManyDistinct, tooManyDistinct-is, cappedDistinct-all, cappedDistinct-first, insert-rising, distinct-rising}
+use Rattle.format.proofs.numbers.Distinct.{insert-grows, length-insert, distinctFrom-grows, length-distinct, insert-rising, distinct-rising}
+use Rattle.format.proofs.numbers.Distinct.{not-tooManyDistinct, tooManyDistinct-is, cappedDistinct-all, cappedDistinct-first}
 use Rattle.format.proofs.plan.Checks.{length-stored, take-stored}
-use Rattle.distinct.specs.Collect.{countOutcome, has, taken, gathered, gatheredCount}
+use Rattle.distinct.specs.Collect.{countOutcome, has, vacant, taken, gathered, gatheredCount}
 use Rattle.distinct.specs.Merge.{merged, Mergeable}
 use Rattle.distinct.specs.Search.{slotOf}
-use Rattle.distinct.proofs.Members.{eqZ-self, insert-into, insert-had, insert-more, has-both, has-new, has-still}
-use Rattle.distinct.proofs.Slots.{slot-lt}
+use Rattle.distinct.proofs.Members.{eqZ-self, insert-into, insert-had, insert-more, has-none, has-insert, has-both, has-new, has-still}
+use Rattle.distinct.proofs.Slots.{slot-lt, vacant-other, vacant-before}
 use Rattle.distinct.proofs.Inserting.{same-front}
 
 -- ---- distinct values, a value and a part at a time
@@ -131,7 +132,8 @@ module _ (column old : List ℤ) where
   abbrev upTo : ℕ → List ℤ
   upTo i = distinct (take i column)
 
-  -- those of the first i keys are held at the front of the scratch s, or wait at the front of p; none is in both, and every slot has a key that was met
+  -- those of the first i keys are held at the front of the scratch s, or wait at the front of p; none is in both, every slot has a key that was met, and a key
+  -- whose slot is vacant was not
   pub record Gathering (s p seen : List ℤ) (held waiting i : ℕ) : Type 0 where
     pub upto : i ≤ length column
     pub few : held + waiting ≤ maxDictionaryCardinality
@@ -144,6 +146,7 @@ module _ (column old : List ℤ) where
     pub count : held + waiting ≡ length (upTo i)
     pub slots : 0 < length seen
     pub met : (k : ℕ) → k < length seen → has (upTo i) (getD seen k (pos 0)) ≡ true
+    pub free : (x : ℤ) → vacant seen (getD column 0 (pos 0)) x ≡ true → has (upTo i) x ≡ false
 
   -- the first key waits, and is in every slot
   pub gathering-first : 0 < length column → {p seen : List ℤ} → 1 < length p → 0 < length seen → getD p 0 (pos 0) ≡ getD column 0 (pos 0)
@@ -164,6 +167,7 @@ module _ (column old : List ℤ) where
         count = rw first;
         slots = m;
         met = λ k h. rw (first, all k h) (ap (λ (t : Bool). t || false) (eqZ-self (getD column 0 (pos 0))));
+        free = λ x f. rw first (ap (λ (t : Bool). t || false) (vacant-other seen (getD column 0 (pos 0)) x f));
       }
 
   module _ (needed : scratchNeeded column ≤ length old) {s p seen : List ℤ} {held waiting i : ℕ} (g : Gathering s p seen held waiting i) where
@@ -216,6 +220,7 @@ module _ (column old : List ℤ) where
             count = omega (arith, g .count);
             slots = g .slots;
             met = g .met;
+            free = g .free;
           }
 
       -- all keys
@@ -239,6 +244,31 @@ module _ (column old : List ℤ) where
       has-held : has (upTo i) v ≡ (has (take held s) v || has (take waiting p) v)
       has-held = ap (λ (l : List ℤ). has l v) (sym (g .both)) ∙ has-both (take held s) (take waiting p) v
 
+      -- a key whose slot is vacant is not held, so none of the values held need be asked
+      module _ {asked : ℕ} (k : asked ≡ cond (vacant seen (getD column 0 (pos 0)) v) 0 held) where
+        pub gathering-part : (asked ≤ length s) × Rising (take asked s)
+        gathering-part = rw k (go (vacant seen (getD column 0 (pos 0)) v))
+          where
+            go : (t : Bool) → (cond t 0 held ≤ length s) × Rising (take (cond t 0 held) s)
+            go true = (omega arith, tt)
+            go false = (omega (arith, gathering-room), g .front)
+
+        part-has : has (take asked s) v ≡ has (take held s) v
+        part-has = ap (λ (n : ℕ). has (take n s) v) k ∙ go (vacant seen (getD column 0 (pos 0)) v) refl
+          where
+            or-left : (a b : Bool) → (a || b) ≡ false → a ≡ false
+            or-left true b f = f
+            or-left false b f = refl
+
+            go : (t : Bool) → vacant seen (getD column 0 (pos 0)) v ≡ t → has (take (cond t 0 held) s) v ≡ has (take held s) v
+            go true f = has-none v ∙ sym (or-left (has (take held s) v) (has (take waiting p) v) (sym has-held ∙ g .free v f))
+            go false f = refl
+
+        pub gathering-asked : (cap : ℕ) {more : ℕ} {q : List ℤ} → more ≡ gatheredCount (take asked s) v (take waiting p) → q ≡ stored (gathered cap (take asked s) v (take waiting p)) p
+            → (more ≡ gatheredCount (take held s) v (take waiting p)) × (q ≡ stored (gathered cap (take held s) v (take waiting p)) p)
+        unfolding gatheredCount gathered
+        gathering-asked cap m a = (rw part-has at m, rw part-has at a)
+
       -- the table once the key is in its slot
       module _ {table : List ℤ} (t : table ≡ set seen (slotOf v (length seen)) v) where
         slot : slotOf v (length seen) < length seen
@@ -255,11 +285,19 @@ module _ (column old : List ℤ) where
 
             go : (b : Bool) → eqb k (slotOf v (length seen)) ≡ b → has (insert v (upTo i)) (getD table k (pos 0)) ≡ true
             go true f =
-                let is : getD table k (pos 0) ≡ v = at ∙ ap (λ (n : ℕ). getD (set seen (slotOf v (length seen)) v) n (pos 0)) (eqb-true k (slotOf v (length seen)) f) ∙ getD-set-same seen (slotOf v (length seen)) v (pos 0) slot in
+                let is : getD table k (pos 0) ≡ v =
+                at
+                ∙ ap (λ (n : ℕ). getD (set seen (slotOf v (length seen)) v) n (pos 0)) (eqb-true k (slotOf v (length seen)) f)
+                ∙ getD-set-same seen (slotOf v (length seen)) v (pos 0) slot in
                 rw is (has-new v (upTo i))
             go false f =
                 let is : getD table k (pos 0) ≡ getD seen k (pos 0) = at ∙ getD-set-other seen (slotOf v (length seen)) k v (pos 0) (eqb-false k (slotOf v (length seen)) f) in
                 rw is (has-still v (upTo i) (getD seen k (pos 0)) (g .met k (omega (arith, table-long))))
+
+        free-next : (x : ℤ) → vacant table (getD column 0 (pos 0)) x ≡ true → has (upTo (i + 1)) x ≡ false
+        free-next x f =
+            let b = vacant-before seen (getD column 0 (pos 0)) x v (g .slots) t f in
+            ap (λ (l : List ℤ). has l x) next ∙ has-insert v (upTo i) x ∙ rw (b .0, g .free x (b .1))
 
         -- it was there before
         pub gathering-known : {r : Bool} → r ≡ eqZ (getD seen (slotOf v (length seen)) (pos 0)) v → r ≡ true → Gathering s p table held waiting (i + 1)
@@ -279,6 +317,7 @@ module _ (column old : List ℤ) where
               count = g .count ∙ ap length (sym still);
               slots = omega (arith, g .slots, table-long);
               met = met-next;
+              free = free-next;
             }
 
         module _ {more : ℕ} (m : more ≡ gatheredCount (take held s) v (take waiting p)) {q : List ℤ}
@@ -300,6 +339,7 @@ module _ (column old : List ℤ) where
                 count = omega arith;
                 slots = omega (arith, g .slots, table-long);
                 met = met-next;
+                free = free-next;
               }
 
           -- a key that is held
@@ -341,7 +381,8 @@ module _ (column old : List ℤ) where
                   waits (take waiting p) (held-told b .1) (held-told b .0) (omega (arith, many .1)) (g .rest) (g .both ∙ sym still) (omega (arith, many .1, g .count, ap length still)) few
               go false b =
                   let n = new-told b in
-                  let is = n .1 ∙ ap (λ (t : Bool). stored (cond t (insert v (take waiting p)) (take waiting p)) p) (le-leb (length (insert v (take waiting p))) (maxDictionaryCardinality - held) (omega (arith, n .0))) in
+                  let fits = le-leb (length (insert v (take waiting p))) (maxDictionaryCardinality - held) (omega (arith, n .0)) in
+                  let is = n .1 ∙ ap (λ (t : Bool). stored (cond t (insert v (take waiting p)) (take waiting p)) p) fits in
                   waits (insert v (take waiting p)) is (n .0) (omega (arith, length-insert v (take waiting p), many .1)) (insert-rising v (take waiting p) (g .rest))
                   (insert-into v (take held s) (take waiting p) ∙ ap (insert v) (g .both) ∙ sym next) (new-count b) few
 
@@ -358,8 +399,9 @@ module _ (column old : List ℤ) where
             unfolding taken
             stays =
                 let n = new-told new-key in
+                let more-than = lt-leb (length (insert v (take waiting p))) (maxDictionaryCardinality - held) (omega (arith, n .0)) in
                 n .1
-                ∙ ap (λ (t : Bool). stored (cond t (insert v (take waiting p)) (take waiting p)) p) (lt-leb (length (insert v (take waiting p))) (maxDictionaryCardinality - held) (omega (arith, n .0)))
+                ∙ ap (λ (t : Bool). stored (cond t (insert v (take waiting p)) (take waiting p)) p) more-than
                 ∙ sym (same-front p waiting (g .space))
 
             pub gathering-stays : (waiting ≤ length q) × Mergeable s held (take waiting q)

@@ -156,6 +156,10 @@ pub or-true : (t : Bool) → (t || true) ≡ true
 or-true true = refl
 or-true false = refl
 
+pub has-none : (v : ℤ) → has [] v ≡ false
+unfolding has
+has-none v = refl
+
 -- what is inserted, and what was there
 pub has-insert : (w : ℤ) (l : List ℤ) (v : ℤ) → has (insert w l) v ≡ (eqZ w v || has l v)
 unfolding insert has

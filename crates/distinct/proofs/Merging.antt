@@ -223,7 +223,9 @@ module _ (s : List ℤ) (i : ℕ) (p : List ℤ) (j : ℕ) (h : j < length p) (m
           let split : take i s ≡ take n s ++ (getD s n (pos 0) ∷ []) = ap (λ (k : ℕ). take k s) e ∙ take-suc s n (pos 0) there in
           let not-over : ltZ y (getD s n (pos 0)) ≡ false = ap (λ (k : ℕ). ltZ y (getD s k (pos 0))) (sym less) ∙ q (omega arith) in
           let up = rising-end (take n s) (getD s n (pos 0)) (rw split at (m .front)) in
-          rw split (beneath-end (take n s) (getD s n (pos 0)) up y (lesser (getD s n (pos 0)) y (λ e. front-other (ap (λ (l : List ℤ). has l y) split ∙ ap (λ (z : ℤ). has (take n s ++ (z ∷ [])) y) e ∙ has-end y (take n s))) not-over))
+          let other : getD s n (pos 0) ≡ y → ⊥ =
+          λ e. front-other (ap (λ (l : List ℤ). has l y) split ∙ ap (λ (z : ℤ). has (take n s ++ (z ∷ [])) y) e ∙ has-end y (take n s)) in
+          rw split (beneath-end (take n s) (getD s n (pos 0)) up y (lesser (getD s n (pos 0)) y other not-over))
 
   waiting-beneath : Beneath y done
   waiting-beneath = distinctFrom-has (λ z. ltZ z y ≡ true) front-beneath (rising-end (take j p) y waiting-rises)

@@ -9,7 +9,6 @@ use native.Mathlib.Decide.{decLt}
 use native.Mathlib.Omega.{arith}
 use lib.Pow.{pow-pos}
 use lib.IntN.{ℤ, pos}
-use lib.Dec.{eqb}
 use lib.Signed.{ltZ}
 use lib.ListN.{length, getD}
 use borrow.Author.Tests.{eq-eqb, ne-eqb}

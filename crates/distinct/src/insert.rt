@@ -1,17 +1,15 @@
 // Taking a key in among the rising values at the front of a scratch.
 ghost use mathlib.Core.Path.{_≡_};
 ghost use mathlib.Core.List.{_∷_, _++_};
-ghost use Prim.Native.Nat.{suc, _+_, _-_, _≤_, _<_};
+ghost use Prim.Native.Nat.{suc, _≤_, _<_};
 ghost use lib.ListN.{length, take, drop};
 ghost use lib.Seq.{slice};
-ghost use Rattle.format.specs.Encodings.{maxDictionaryCardinality};
 ghost use Rattle.format.specs.Answers.{stored};
 ghost use Rattle.format.specs.Distinct.{insert, Rising};
 ghost use Rattle.distinct.specs.Collect.{taken, gathered, gatheredCount};
 use crate::known::holds;
 use crate::search;
 use crate::stands;
-use format::limits::MAX_DICTIONARY_CARDINALITY;
 
 // The values from `at` to `held` go up by one place, the last first, and the key is put at `at`.
 fn put_in(scratch: &mut [i64], at: usize, held: usize, key: i64)
@@ -46,22 +44,23 @@ pub(crate) fn take_in(values: &mut [i64], held: usize, cap: usize, key: i64) -> 
     held + 1
 }
 
-// Takes a key in among those that wait, unless the first `held` values have it, or it would be the 16,385th with them. Returns
-// how many wait with it.
+// Takes a key in among those that wait, unless the first `asked` of the values held have it, or `cap` wait. Returns how many
+// wait with it.
 pub(crate) fn gather(
     scratch: &[i64],
-    held: usize,
+    asked: usize,
     pending: &mut [i64],
     waiting: usize,
+    cap: usize,
     key: i64,
 ) -> usize
-    requires { ⌜ (held + waiting ≤ maxDictionaryCardinality) × (held ≤ length (now scratch)) × (waiting < length (now pending)) ⌝ }
-    requires { ⌜ Rising (take held (now scratch)) × Rising (take waiting (now pending)) ⌝ }
-    ensures { λ r. ⌜ r ≡ gatheredCount (take held (now (scratch .entry))) key (take waiting (now (pending .entry))) ⌝ }
-    ensures { λ _. ⌜ now (pending .exit) ≡ stored (gathered (maxDictionaryCardinality - held) (take held (now (scratch .entry))) key (take waiting (now (pending .entry)))) (now (pending .entry)) ⌝ }
+    requires { ⌜ (waiting ≤ cap) × (asked ≤ length (now scratch)) × (waiting < length (now pending)) ⌝ }
+    requires { ⌜ Rising (take asked (now scratch)) × Rising (take waiting (now pending)) ⌝ }
+    ensures { λ r. ⌜ r ≡ gatheredCount (take asked (now (scratch .entry))) key (take waiting (now (pending .entry))) ⌝ }
+    ensures { λ _. ⌜ now (pending .exit) ≡ stored (gathered cap (take asked (now (scratch .entry))) key (take waiting (now (pending .entry)))) (now (pending .entry)) ⌝ }
 {
-    if holds(&scratch[..held], key) {
+    if holds(&scratch[..asked], key) {
         return waiting;
     }
-    take_in(pending, waiting, MAX_DICTIONARY_CARDINALITY - held, key)
+    take_in(pending, waiting, cap, key)
 }

@@ -82,7 +82,8 @@ add-result c =
 returns-2 : tie.Need-returns-2 Inv-loop μ-loop
 returns-2 c =
     let l = c .before .before .before .loop in
-    halving-done _ _ (l .inv .1) (c .before .before .loop-test .left) (read-back (c .before .step-arg2 .given)) (c .step2 .ensures) ∙ ap (searched _) (toZ-ofZ (c .before .before .before .before .before .before .before .before .before .fits .key))
+    let start = c .before .before .before .before .before .before .before .before .before in
+    halving-done _ _ (l .inv .1) (c .before .before .loop-test .left) (read-back (c .before .step-arg2 .given)) (c .step2 .ensures) ∙ ap (searched _) (toZ-ofZ (start .fits .key))
 
 pub search-spec : {M : Type 1} → statement M
 search-spec =

@@ -27,7 +27,6 @@ gather-spec =
     (λ c. sym (length-take-le _ _ (c .before .pre .0 .1)))
     (λ c κs. search needs)
     returns
-    (λ c. search needs)
     (λ c κs. search needs)
     (λ c. search needs)
     returns-2)

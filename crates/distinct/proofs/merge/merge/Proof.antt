@@ -1,15 +1,13 @@
 -- `merge` meets its contract: each turn keeps `Merging`.
-use mathlib.Core.Path.{_≡_, sym}
+use mathlib.Core.Path.{sym}
+use Prim.Native.Nat.{_-_}
 use native.Mathlib.Omega.{arith}
-use lib.ListN.{length, take}
 use lib.Seq.{length-take-le}
 use borrow.Author.Needs.{needs}
 use Rattle.distinct.proofs.Machine.{read-back}
 use Rattle.distinct.proofs.Merging.{Merging, merging-none, merging-more, merging-done}
 use Rattle.distinct.proofs.merge.merge.Statement.{statement}
 use Rattle.distinct.proofs.merge.merge.Tie as tie
-use Rattle.distinct.proofs.merge.merge.Reads as reads
-use Rattle.distinct.proofs.merge.merge.Lts as lts
 
 abbrev Inv-loop : tie.InvT-loop
 Inv-loop scratch₀ held waiting i₀ j₀ scratch i j = Merging scratch₀ held waiting scratch i j

@@ -13,8 +13,6 @@ use Rattle.distinct.proofs.Machine.{read-back}
 use Rattle.distinct.proofs.Merging.{over-true, raised-none, raised-more}
 use Rattle.distinct.proofs.merge.raise.Statement.{statement}
 use Rattle.distinct.proofs.merge.raise.Tie as tie
-use Rattle.distinct.proofs.merge.raise.Reads as reads
-use Rattle.distinct.proofs.merge.raise.Lts as lts
 
 abbrev Inv-loop : tie.InvT-loop
 Inv-loop scratch₀ from waiting by key i₀ scratch i = Raised scratch₀ from waiting scratch i
