@@ -22,11 +22,19 @@ use Rattle.format.proofs.codecs.Encodings.{encodingOf-id, id-within}
 use Rattle.format.proofs.codecs.Header.{length-headerBytes}
 use Rattle.format.proofs.numbers.Stores.{sets-append, sets-stored}
 use Rattle.places.specs.Places.{fitting, laid, laidEnd}
+use Rattle.codec.specs.Lacking.{Lacking}
 
 -- how long a chunk is
 pub length-chunk : (e : Encoding) (column : List ℤ) → length (chunkOf e column) ≡ headerLen (length column) + length (bodyOf e column)
 unfolding chunkOf
 length-chunk e column = length-append (headerBytes (idOf e) (length column)) (bodyOf e column) ∙ ap (λ (n : ℕ). n + length (bodyOf e column)) (length-headerBytes (idOf e) (length column))
+
+-- there is room, or there is too little
+pub lacking-none : {needed space : ℕ} → needed ≤ space → Lacking needed space 0
+lacking-none h = record { enough = λ e. h; short = λ k. absurd (omega arith) }
+
+pub lacking-some : {needed space r : ℕ} → r ≡ needed → space < r → Lacking needed space r
+lacking-some e h = record { enough = λ z. absurd (omega arith); short = λ k. (e, omega arith) }
 
 -- header and body, stored one after the other
 module _ (e : Encoding) (column : List ℤ) (output : List ℕ) {needed : ℕ} (measured : needed ≡ headerLen (length column) + length (bodyOf e column))
@@ -49,6 +57,10 @@ module _ (e : Encoding) (column : List ℤ) (output : List ℕ) {needed : ℕ} (
     -- the body has room after the header
     pub body-room : at + length (bodyOf e column) ≤ length begun
     body-room = omega (arith, laid-front .0, long, measured, there, ap length (laid-front .1), length-sets output 0 front)
+
+    -- and ends where the chunk does
+    pub body-end : at + length (bodyOf e column) ≡ needed
+    body-end = omega (arith, laid-front .0, long, measured)
 
     pub chunk-stored : {out : List ℕ} → out ≡ sets begun at (bodyOf e column) → out ≡ stored (chunkOf e column) output
     unfolding chunkOf

@@ -13,7 +13,7 @@ use mir.Facts.{toZ-ofZ}
 use Rattle.format.specs.Keys.{zigzag}
 use Rattle.format.specs.Varint.{uvarintBytes, varintBytes}
 use Rattle.format.specs.Runs.{Run, runs, runBytes, runBody}
-use Rattle.format.proofs.numbers.Stores.{Storing, storing-none, storing-room, storing-done}
+use Rattle.format.proofs.numbers.Stores.{Storing, storing-none, storing-room, storing-end, storing-done}
 use Rattle.places.proofs.Placing.{PutUvarint, storing-uvarint}
 use Rattle.runs.specs.RunAt.{runOf, RunAt}
 
@@ -45,9 +45,11 @@ module _ {column : List ℤ} {output : List ℕ} {from start : ℕ} {out : List 
       record { stores = storing-uvarint first room (run .times) (runBytes rest) refl times }
 
   -- none is left
-  pub putting-done : length column ≤ start → out ≡ sets output from (runBytes (runs column))
+  pub putting-done : length column ≤ start → (at ≡ from + length (runBytes (runs column))) × (out ≡ sets output from (runBytes (runs column)))
   unfolding runs runBytes
-  putting-done h = storing-done (p .stores) (ap (λ (l : List ℤ). runBytes (runs l)) (drop-of-length-le column h))
+  putting-done h =
+      let none = ap (λ (l : List ℤ). runBytes (runs l)) (drop-of-length-le column h) in
+      (storing-end (p .stores) none, storing-done (p .stores) none)
 
 -- ---- the body
 
@@ -62,5 +64,6 @@ module _ (column : List ℤ) (output : List ℕ) (at : ℕ) (room : at + length 
     pub runs-room : from + length (runBytes (runs column)) ≤ length begun
     runs-room = storing-room total-stored room
 
-    pub body-stored : {out : List ℕ} → out ≡ sets begun from (runBytes (runs column)) → out ≡ sets output at (runBody column)
-    body-stored e = e ∙ total-stored .same
+    pub body-stored : {end : ℕ} {out : List ℕ} → (end ≡ from + length (runBytes (runs column))) × (out ≡ sets begun from (runBytes (runs column)))
+        → (end ≡ at + length (runBody column)) × (out ≡ sets output at (runBody column))
+    body-stored e = (e .0 ∙ total-stored .ends, e .1 ∙ total-stored .same)

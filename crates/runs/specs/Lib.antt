@@ -1,3 +1,2 @@
 -- What the contracts of `runs` cite beside the definitions of `format`.
 pub mod RunAt
-pub mod Measured

@@ -1,5 +1,5 @@
-// Encoding 5, RunLength: the Rust's `RunLengthCodec`. There is no `Vec` of runs here: the column is walked twice, once to
-// measure its runs and once to store them.
+// Encoding 5, RunLength: the Rust's `RunLengthCodec`. There is no `Vec` of runs here: they are counted, measured
+// where the output could be too short, and stored.
 ghost use mathlib.Core.Path.{_≡_};
 ghost use lib.ListN.{length};
 ghost use Rattle.format.specs.Header.{named};
@@ -7,10 +7,10 @@ ghost use Rattle.format.specs.Read.{readAnswer, readColumn};
 ghost use Rattle.format.specs.Write.{writeAnswer, writeOutput};
 use crate::reading::fill;
 use crate::reading::settle_body;
-use crate::writing::measure;
+use crate::writing::count_runs;
+use crate::writing::lacking;
 use crate::writing::store;
 use codec::body::settle;
-use codec::header::header_len;
 use codec::header::put_header;
 use codec::header::read_header;
 use codec::header::refusal_of_header;
@@ -31,15 +31,13 @@ pub fn encode(column: &[i64], out: &mut [u8]) -> Answer
     if column.len() > MAX_CHUNK_ELEMENTS {
         return Answer::Refused(format::refusal::COLUMN_ABOVE_LIMIT, 0);
     }
-    let runs = measure(column);
-    let count = runs.count;
-    let needed = header_len(column.len()) + varint::uvarint_len(count as u64) + runs.bytes;
-    if out.len() < needed {
+    let count = count_runs(column);
+    let needed = lacking(column, count, out.len());
+    if needed > 0 {
         return Answer::Refused(format::refusal::BUFFER_TOO_SHORT, needed);
     }
     let at = put_header(Encoding::RunLength, column.len(), out);
-    store(column, count, out, at);
-    Answer::Accepted(needed)
+    Answer::Accepted(store(column, count, out, at))
 }
 
 // Reads a chunk that is to be of this encoding to the front of `column`; refused, it stores nothing.

@@ -1,13 +1,17 @@
 // Measuring and storing the runs of a column.
 ghost use mathlib.Core.Path.{_≡_};
+ghost use mathlib.Core.Bool.{cond};
 ghost use Prim.Native.Nat.{_+_, _<_, _≤_};
 ghost use lib.ListN.{length};
 ghost use lib.Seq.{sets};
 ghost use Rattle.format.specs.Encodings.{maxChunkElements};
+ghost use Rattle.format.specs.Header.{headerLen};
+ghost use Rattle.format.specs.Keys.{eqZ};
 ghost use Rattle.format.specs.Varint.{uvarintLen, varintLen};
 ghost use Rattle.format.specs.Runs.{runs, runBytes, runBody};
+ghost use Rattle.codec.specs.Lacking.{Lacking};
 ghost use Rattle.runs.specs.RunAt.{RunAt, Running, sameKey, sameFrom};
-ghost use Rattle.runs.specs.Measured.{measured};
+use codec::header::header_len;
 use places::put_uvarint;
 use places::put_varint;
 
@@ -79,10 +83,26 @@ fn run_end(column: &[i64], start: usize) -> usize
     end_from(column, start, skip_eights(column, start, next))
 }
 
-// What is written of a column's runs: how many they are, and their bytes.
-pub(crate) struct RunTotals {
-    pub count: usize,
-    pub bytes: usize,
+// 1 for values that differ, else 0.
+fn differ(a: i64, b: i64) -> usize
+    ensures { λ r. ⌜ r ≡ cond (eqZ a b) 0 1 ⌝ }
+{
+    if a == b { 0 } else { 1 }
+}
+
+// How many runs a column has: the first value begins one, and so does each that is not the one before it. The compiler makes
+// vector code of this walk.
+pub(crate) fn count_runs(column: &[i64]) -> usize
+    ensures { λ r. ⌜ r ≡ length (runs (now (column .entry))) ⌝ }
+{
+    if column.len() == 0 {
+        return 0;
+    }
+    let mut count = 1;
+    for i in 1..column.len() {
+        count += differ(column[i - 1], column[i]);
+    }
+    count
 }
 
 // How many bytes a varint has. Most have one, and for these no leading zeros are counted.
@@ -102,26 +122,39 @@ fn run_len(key: i64, times: usize) -> usize
     len_of(number::zigzag_encode(key)) + len_of(times as u64)
 }
 
-// Walks the column once, run by run.
-pub(crate) fn measure(column: &[i64]) -> RunTotals
+// How many bytes the runs have.
+fn runs_len(column: &[i64]) -> usize
     requires { ⌜ length (now column) ≤ maxChunkElements ⌝ }
-    ensures { λ r. ⌜ r ≡ measured (now (column .entry)) ⌝ }
+    ensures { λ r. ⌜ r ≡ length (runBytes (runs (now (column .entry)))) ⌝ }
 {
-    let mut count = 0;
     let mut bytes = 0;
     let mut start = 0;
     while start < column.len() {
         let end = run_end(column, start);
-        count += 1;
         bytes += run_len(column[start], end - start);
         start = end;
     }
-    RunTotals { count, bytes }
+    bytes
 }
 
-// Stores the runs of a column from `from` on.
-fn store_runs(column: &[i64], out: &mut [u8], from: usize)
+// The length of the chunk of a column with `count` runs where `space` bytes are too few for it, else 0. The runs are measured only
+// where there is no room for two varints of ten bytes a value.
+pub(crate) fn lacking(column: &[i64], count: usize, space: usize) -> usize
+    requires { ⌜ (length (now column) ≤ maxChunkElements) × (count ≡ length (runs (now column))) ⌝ }
+    ensures { λ r. ⌜ Lacking (headerLen (length (now (column .entry))) + length (runBody (now (column .entry)))) space r ⌝ }
+{
+    let front = header_len(column.len()) + varint::uvarint_len(count as u64);
+    if front + 20 * column.len() <= space {
+        return 0;
+    }
+    let needed = front + runs_len(column);
+    if needed <= space { 0 } else { needed }
+}
+
+// Stores the runs of a column from `from` on, and answers the place after them.
+fn store_runs(column: &[i64], out: &mut [u8], from: usize) -> usize
     requires { ⌜ from + length (runBytes (runs (now column))) ≤ length (now out) ⌝ }
+    ensures { λ r. ⌜ r ≡ from + length (runBytes (runs (now (column .entry)))) ⌝ }
     ensures { λ _. ⌜ now (out .exit) ≡ sets (now (out .entry)) from (runBytes (runs (now (column .entry)))) ⌝ }
 {
     let mut at = from;
@@ -132,13 +165,15 @@ fn store_runs(column: &[i64], out: &mut [u8], from: usize)
         at = put_uvarint((end - start) as u64, out, after_key);
         start = end;
     }
+    at
 }
 
-// Stores the body: how many runs there are, and the runs.
-pub(crate) fn store(column: &[i64], count: usize, out: &mut [u8], at: usize)
+// Stores the body, how many runs there are and the runs, and answers the place after it.
+pub(crate) fn store(column: &[i64], count: usize, out: &mut [u8], at: usize) -> usize
     requires { ⌜ (count ≡ length (runs (now column))) × (at + length (runBody (now column)) ≤ length (now out)) ⌝ }
+    ensures { λ r. ⌜ r ≡ at + length (runBody (now (column .entry))) ⌝ }
     ensures { λ _. ⌜ now (out .exit) ≡ sets (now (out .entry)) at (runBody (now (column .entry))) ⌝ }
 {
     let from = put_uvarint(count as u64, out, at);
-    store_runs(column, out, from);
+    store_runs(column, out, from)
 }

@@ -7,7 +7,6 @@ use native.Mathlib.Omega.{arith}
 use lib.IntN.{ℤ}
 use lib.ListN.{length}
 use lib.Seq.{sets}
-use borrow.Author.Tests.{le-leb}
 use Rattle.format.specs.Outcome.{Outcome}
 use Rattle.format.specs.Answers.{answerOf}
 use Rattle.format.specs.Chunk.{bodyOf, validateBody, bodyValues}
@@ -23,13 +22,12 @@ use Rattle.format.specs.declared.Encoding.the-variants.{Varint}
 use Rattle.format.specs.declared.HeaderAnswer.{HeaderAnswer}
 use Rattle.format.specs.declared.HeaderAnswer.the-variants.{Found}
 use Rattle.format.specs.declared.Padded.{Padded}
-use Rattle.format.proofs.codecs.Header.{length-headerBytes}
 use Rattle.places.specs.Places.{fitting, laid, laidEnd}
 use Rattle.codec.specs.Refusals.{outcomeOf}
 use Rattle.keys.specs.Rows.{filledFrom}
 use Rattle.keys.proofs.Bodies.{all-alone}
 use Rattle.codec.proofs.Reading.{outcome-back, read-answer, read-untouched, read-filled, read-count, read-few, read-room}
-use Rattle.codec.proofs.Writing.{Written, body-room, chunk-stored, write-short, write-done}
+use Rattle.codec.proofs.Writing.{Written, body-room, body-end, chunk-stored, write-short, write-done}
 
 -- ---- writing
 
@@ -50,19 +48,12 @@ module _ (column : List ℤ) (few : length column ≤ maxChunkElements) (output 
       unfolding bodyOf
       written-room = body-room Varint column output refl there header
 
-      header-end : at ≡ headerLen (length column)
-      unfolding fitting
-      header-end =
-          let long = length-headerBytes 2 (length column) in
-          let e = rw (le-leb (length (headerBytes 2 (length column))) (length output) (omega (arith, long, there))) at (header .0) in
-          omega (arith, e, long)
-
       -- the place after the body is the chunk's length
       pub written-done : {end : ℕ} {out : List ℕ} → (end ≡ at + length (varintBody column)) × (out ≡ sets begun at (varintBody column))
           → Written Varint column 0 output (Accepted end) out
       unfolding bodyOf
       written-done {end} done =
-          let e : end ≡ chunkLen column = omega (arith, header-end, done .0) in
+          let e : end ≡ chunkLen column = done .0 ∙ body-end Varint column output refl there header in
           rw e (write-done Varint column 0 output few (λ k. refl) refl there (chunk-stored Varint column output refl there header (done .1)))
 
 -- ---- reading

@@ -19,7 +19,6 @@ use Rattle.format.proofs.numbers.All.{All, all-none, all-more, all-by}
 use Rattle.format.proofs.numbers.Keys.{length-varintBytes, varintLen-le}
 use Rattle.format.proofs.numbers.Places.{pow-pow}
 use Rattle.format.proofs.numbers.Widths.{uvarintLen-pos, uvarintLen-le, uvarintLen-lt, uvarintLen-least, uvarintLen-mono}
-use Rattle.varints.specs.Lacking.{Lacking}
 use Rattle.varints.specs.Lengths.{longer, capped, Within}
 
 -- ---- every bit
@@ -50,10 +49,6 @@ body-longest column bits b w = rw (mul-comm (uvarintLen bits) (length column)) (
 pub header-most : (count : ℕ) → headerLen count ≤ 12
 unfolding headerLen
 header-most count = omega (arith, uvarintLen-le count)
-
--- there is room
-pub lacking-none : {needed space : ℕ} → needed ≤ space → Lacking needed space 0
-lacking-none h = record { enough = λ e. h; short = λ k. absurd (omega arith) }
 
 -- ---- byte by byte
 

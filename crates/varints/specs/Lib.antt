@@ -1,4 +1,3 @@
-pub mod Lacking
 pub mod Lengths
 pub mod Readable
 pub mod Scans

@@ -5,7 +5,7 @@ ghost use lib.ListN.{length};
 ghost use Rattle.format.specs.Encodings.{maxChunkElements};
 ghost use Rattle.format.specs.Header.{headerLen};
 ghost use Rattle.format.specs.VarintBody.{varintBody};
-ghost use Rattle.varints.specs.Lacking.{Lacking};
+ghost use Rattle.codec.specs.Lacking.{Lacking};
 ghost use Rattle.varints.specs.Lengths.{Within, longer};
 use codec::header::header_len;
 

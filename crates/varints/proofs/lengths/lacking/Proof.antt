@@ -6,7 +6,8 @@ use lib.ListN.{length}
 use borrow.Author.Needs.{needs}
 use Rattle.format.specs.Encodings.{maxChunkElements}
 use Rattle.format.proofs.numbers.Widths.{uvarintLen-le}
-use Rattle.varints.proofs.Measuring.{header-most, body-most, body-longest, lacking-none}
+use Rattle.codec.proofs.Writing.{lacking-none}
+use Rattle.varints.proofs.Measuring.{header-most, body-most, body-longest}
 use Rattle.varints.proofs.lengths.lacking.Statement.{statement}
 use Rattle.varints.proofs.lengths.lacking.Tie as tie
 
