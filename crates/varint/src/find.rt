@@ -7,6 +7,7 @@ ghost use lib.ListN.{length};
 ghost use Rattle.format.specs.Varint.{uvarintAt};
 ghost use Rattle.varint.specs.Reading.{Reading};
 ghost use Rattle.varint.specs.Finding.{Walked, foundAt};
+use crate::long::read_rest;
 use crate::words::group;
 use crate::words::wide;
 use format::UvarintAnswer;
@@ -17,11 +18,21 @@ pub struct Found {
     pub next: usize,
 }
 
-// Finds a varint by a call that reads it, for one that stands alone.
+// Finds a varint that stands alone, or one that is mostly of one byte: a longer one costs a call.
 pub fn find_any(bytes: &[u8], at: usize) -> Found
     ensures { λ r. ⌜ r ≡ foundAt (now (bytes .entry)) at ⌝ }
 {
-    let UvarintAnswer::Read(value, next, _) = crate::read_uvarint(bytes, at) else {
+    if bytes.len() <= at {
+        return Found { value: 0, next: 0 };
+    }
+    let only = bytes[at];
+    if only < 128 {
+        return Found {
+            value: wide(only),
+            next: at + 1,
+        };
+    }
+    let UvarintAnswer::Read(value, next, _) = read_rest(bytes, at) else {
         return Found { value: 0, next: 0 };
     };
     Found { value, next }

@@ -5,8 +5,7 @@ ghost use lib.Dec.{ltb};
 ghost use lib.ListN.{length};
 ghost use Rattle.format.specs.Varint.{uvarintLen, varintLen};
 ghost use Rattle.format.specs.Standalone.{uvarintAnswer, varintAnswer, uvarintWriteAnswer, uvarintWriteOutput, varintWriteAnswer, varintWriteOutput};
-use crate::long::read_long;
-use crate::long::read_word;
+use crate::long::read_rest;
 use crate::words::group;
 use crate::words::wide;
 use format::Answer;
@@ -36,8 +35,8 @@ pub fn varint_len(value: i64) -> usize
     uvarint_len(number::zigzag_encode(value))
 }
 
-// Reads the varint that begins at a place, past the end or not. Most are of one byte, which is asked first, or of two; a longer
-// one is read from one load of eight bytes, and byte by byte near the end.
+// Reads the varint that begins at a place, past the end or not. Most are of one byte, which is asked first, or of two. This much
+// the compiler inlines into a caller's loop; a longer one costs a call.
 pub fn read_uvarint(bytes: &[u8], at: usize) -> UvarintAnswer
     ensures { λ r. ⌜ r ≡ uvarintAnswer (now (bytes .entry)) at ⌝ }
 {
@@ -48,14 +47,13 @@ pub fn read_uvarint(bytes: &[u8], at: usize) -> UvarintAnswer
     if b < 128 {
         return UvarintAnswer::Read(b as u64, at + 1, true);
     }
-    if 10 <= bytes.len() - at {
+    if 2 <= bytes.len() - at {
         let c = bytes[at + 1];
         if c < 128 {
             return UvarintAnswer::Read(group(b) + wide(c) * 128, at + 2, c != 0);
         }
-        return read_word(bytes, at);
     }
-    read_long(bytes, at, group(b), at + 1, 7)
+    read_rest(bytes, at)
 }
 
 // The same for a signed varint.

@@ -1,6 +1,6 @@
 // Varints whose first byte is not their last: from one load of eight bytes, or byte by byte.
 ghost use mathlib.Core.Path.{_≡_};
-ghost use Prim.Native.Nat.{_+_, _≤_, min};
+ghost use Prim.Native.Nat.{_+_, _≤_, _<_, min};
 ghost use lib.ListN.{length, getD};
 ghost use Rattle.format.specs.Standalone.{uvarintAnswer};
 ghost use Rattle.varint.specs.Reading.{Reading};
@@ -19,7 +19,7 @@ fn read_limit(len: usize, at: usize) -> usize
 
 // The varint at `at`, whose bytes up to `from` are read, worth `low`. One limit stands for both questions, so that a byte costs
 // two tests; past it, an eleventh byte must be there to be one too many, else the varint is cut.
-pub(crate) fn read_long(bytes: &[u8], at: usize, low: u64, from: usize, bits: u32) -> UvarintAnswer
+fn read_long(bytes: &[u8], at: usize, low: u64, from: usize, bits: u32) -> UvarintAnswer
     requires { ⌜ Reading (now bytes) at low from bits ⌝ }
     ensures { λ r. ⌜ r ≡ uvarintAnswer (now (bytes .entry)) at ⌝ }
 {
@@ -43,7 +43,7 @@ pub(crate) fn read_long(bytes: &[u8], at: usize, low: u64, from: usize, bits: u3
 }
 
 // The same from its first byte on, where ten bytes are there. A byte below 128 is the last: in the complement its top bit is set.
-pub(crate) fn read_word(bytes: &[u8], at: usize) -> UvarintAnswer
+fn read_word(bytes: &[u8], at: usize) -> UvarintAnswer
     requires { ⌜ (at + 10 ≤ length (now bytes)) × (128 ≤ getD (now bytes) at 0) ⌝ }
     ensures { λ r. ⌜ r ≡ uvarintAnswer (now (bytes .entry)) at ⌝ }
 {
@@ -57,4 +57,16 @@ pub(crate) fn read_word(bytes: &[u8], at: usize) -> UvarintAnswer
     }
     let n = u64::trailing_zeros(ends) / 8;
     UvarintAnswer::Read(low, at + n as usize + 1, y >> (8 * n) != 0)
+}
+
+// The same of any bytes: from one load of eight, and byte by byte near the end. It has two callers, so the compiler keeps it a
+// function, and these stay short.
+pub(crate) fn read_rest(bytes: &[u8], at: usize) -> UvarintAnswer
+    requires { ⌜ (at < length (now bytes)) × (128 ≤ getD (now bytes) at 0) ⌝ }
+    ensures { λ r. ⌜ r ≡ uvarintAnswer (now (bytes .entry)) at ⌝ }
+{
+    if 10 <= bytes.len() - at {
+        return read_word(bytes, at);
+    }
+    read_long(bytes, at, group(bytes[at]), at + 1, 7)
 }

@@ -1,7 +1,7 @@
--- `varint::read_uvarint` meets its contract: no byte, one byte, two bytes, or what `read_word` and `read_long` answer.
+-- `varint::read_uvarint` meets its contract: no byte, one byte, two bytes, or what `read_rest` answers.
 use native.Mathlib.Omega.{arith}
 use borrow.Author.Needs.{needs}
-use Rattle.varint.proofs.Reading.{answer-none, answer-one, answer-two, begin}
+use Rattle.varint.proofs.Reading.{answer-none, answer-one, answer-two}
 use Rattle.varint.proofs.read_uvarint.Statement.{statement}
 use Rattle.varint.proofs.read_uvarint.Tie as tie
 
@@ -14,12 +14,9 @@ returns-2 c = answer-one _ _ (c .before .before .if1 .left) (c .if2 .taken)
 returns-3 : tie.Need-returns-3
 returns-3 c = rw (c .before .group .ensures, c .wide .ensures .0) (answer-two _ _ (omega arith) (omega arith) (omega arith))
 
-read-long-requires : tie.Need-read-long-requires
-read-long-requires c κs = rw (c .group2 .ensures) (begin _ _ (omega arith) (omega arith))
-
 pub read-uvarint-spec : {M : Type 1} → statement M
 read-uvarint-spec =
     tie.close
     (tie.spec returns (λ c. search needs) (λ c. search needs) (λ c. search needs) returns-2 (λ c. search needs) (λ c. search needs) (λ c. search needs)
     (λ c κs. search needs) (λ c κs. search needs) (λ c. search needs) (λ c. search needs) (λ c. search needs) returns-3
-    (λ c κs. search needs) (λ c. search needs) (λ c κs. search needs) (λ c. search needs) read-long-requires (λ c. search needs))
+    (λ c κs. search needs) (λ c. search needs))
