@@ -11,12 +11,34 @@ use varint::find::Found;
 use varint::find::find_any;
 use varint::find::find_uvarint;
 
+fn wide(b: u8) -> u64
+    ensures { λ r. ⌜ (r ≡ b) × (r < 256) ⌝ }
+{
+    b as u64
+}
+
+// A length: mostly of one byte, which needs no call.
+fn find_length(chunk: &[u8], at: usize) -> Found
+    ensures { λ r. ⌜ r ≡ foundAt (now (chunk .entry)) at ⌝ }
+{
+    if at < chunk.len() {
+        let b = chunk[at];
+        if b < 128 {
+            return Found {
+                value: wide(b),
+                next: at + 1,
+            };
+        }
+    }
+    find_any(chunk, at)
+}
+
 // How often a key stands that ends at `at`, and the place after that: its length, or once where there are no lengths.
 fn times_after(chunk: &[u8], at: usize, lengths: bool) -> Found
     ensures { λ r. ⌜ r ≡ timesAfter lengths (now (chunk .entry)) at ⌝ }
 {
     if lengths {
-        return find_any(chunk, at);
+        return find_length(chunk, at);
     }
     Found { value: 1, next: at }
 }

@@ -4,7 +4,7 @@ use Rattle.keys.proofs.times_after.Statement.{statement}
 use Rattle.keys.proofs.times_after.Tie as tie
 
 returns : tie.Need-returns
-returns c = rw (c .before .if1 .taken) (c .find-any .ensures)
+returns c = rw (c .before .if1 .taken) (c .find-length .ensures)
 
 returns-2 : tie.Need-returns-2
 returns-2 c = rw (c .if1 .left)
