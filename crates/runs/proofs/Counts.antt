@@ -9,7 +9,7 @@ use lib.IntN.{ℤ, pos}
 use lib.ListN.{length, getD, drop, drop-of-length-le}
 use lib.Seq.{drop-cons}
 use Rattle.format.specs.Keys.{eqZ}
-use Rattle.format.specs.Runs.{Run, runsFrom, runs}
+use Rattle.format.specs.Runs.{runsFrom, runs}
 use Rattle.format.proofs.codecs.RunLength.{length-runs}
 
 -- how many runs a walk ends does not depend on the length that it has counted
