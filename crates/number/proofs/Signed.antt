@@ -5,14 +5,14 @@ use mathlib.Core.Bool.{Bool, true, false, cond}
 use Prim.Native.Nat.{ℕ, zero, suc, _+_, _-_, _%_, _^_, _<_}
 use native.Mathlib.Nat.{mod-eq-of-lt}
 use native.Mathlib.Omega.{arith}
-use lib.Dec.{ltb}
+use lib.Dec.{ltb, eqb}
 use lib.IntN.{ℤ, pos, negsuc, _-ℤ_, negℤ, predℤ, +ℤ-idl, -ℤ-one, -ℤ-+ℤ-cancel}
 use lib.Signed.{mag, ltZ}
-use borrow.Author.Tests.{ltb-true}
+use borrow.Author.Tests.{ltb-true, eqb-true, eqb-false, eq-eqb, ne-eqb}
 use mir.Syntax.{w64}
 use mir.Val.{SFits, toZ, ofZ, sel}
 use mir.Facts.{toZ-ofZ, toZ-pos}
-use Rattle.format.specs.Keys.{Key, residue, asSigned, gap, delta, wrappingAdd}
+use Rattle.format.specs.Keys.{Key, eqZ, residue, asSigned, gap, delta, wrappingAdd}
 use Rattle.format.proofs.numbers.Keys.{residue-lt, residue-add, residue-asSigned, gap-lt, wrappingAdd-residue}
 
 -- ---- the sign, as a test leaves it
@@ -37,6 +37,17 @@ module _ (z : ℤ) (f : SFits w64 z) where
 -- a key that is read from a column or comes from a call, back from the bits that the machine holds
 pub held : (v : ℤ) → Key v → toZ w64 (ofZ w64 v) ≡ v
 held v h = toZ-ofZ (record { sfits = h })
+
+-- keys have the same bits where they are the same
+pub same-bits : (a b : ℤ) → Key a → Key b → eqb (ofZ w64 a) (ofZ w64 b) ≡ eqZ a b
+same-bits (pos a) (pos b) f g = refl
+same-bits (pos a) (negsuc b) f g = ne-eqb a (2 ^ 64 - suc b) (λ e. omega arith)
+same-bits (negsuc a) (pos b) f g = ne-eqb (2 ^ 64 - suc a) b (λ e. omega arith)
+same-bits (negsuc a) (negsuc b) f g = go (eqb a b) refl
+  where
+    go : (t : Bool) → eqb a b ≡ t → eqb (2 ^ 64 - suc a) (2 ^ 64 - suc b) ≡ t
+    go true e = eq-eqb (2 ^ 64 - suc a) (2 ^ 64 - suc b) (omega (arith, eqb-true a b e))
+    go false e = ne-eqb (2 ^ 64 - suc a) (2 ^ 64 - suc b) (λ h. eqb-false a b e (omega arith))
 
 -- bits read as signed
 pub asSigned-toZ : (n : ℕ) → asSigned n ≡ toZ w64 n

@@ -52,6 +52,13 @@ pub fn wrapping_sub(a: i64, b: i64) -> i64
     of_bits(std::num::wrapping_sub_u64(bits_of(a), bits_of(b)))
 }
 
+// How far b lies above a, modulo 2^64: a gap, a difference from the least value, a span. It may be above every key.
+pub fn gap(a: i64, b: i64) -> u64
+    ensures { λ r. ⌜ r ≡ Keys.gap a b ⌝ }
+{
+    bits_of(wrapping_sub(b, a))
+}
+
 // 2 v for v of 0 or more, else -2 v - 1. Twice v may wrap, and unary minus would overflow at -2^62, whose double is the
 // least key; so the complement, which is -x - 1 modulo 2^64, stands for the negation.
 pub fn zigzag_encode(v: i64) -> u64

@@ -7,30 +7,18 @@ use Prim.Native.Nat.{ℕ, zero, suc, _+_, _-_, _^_, _≤_, _<_}
 use native.Mathlib.Nat.{add-zero, add-suc}
 use native.Mathlib.Numerals.{add-one}
 use native.Mathlib.Omega.{arith}
-use borrow.Author.Needs.{sfits-of}
-use borrow.Author.Tests.{eqb-true, eqb-false, eq-eqb, ne-eqb}
 use lib.Dec.{eqb}
-use lib.IntN.{ℤ, pos, negsuc}
+use lib.IntN.{ℤ, pos}
 use lib.Signed.{mag}
 use lib.ListN.{length, getD, drop, drop-of-length-le}
 use lib.Seq.{drop-cons}
 use mir.Syntax.{w64}
-use mir.Val.{SFits, ofZ}
+use mir.Val.{ofZ}
 use Rattle.format.specs.Keys.{eqZ}
 use Rattle.format.specs.Runs.{runsFrom, runs}
 use Rattle.format.proofs.numbers.Order.{eqZ-true}
+use Rattle.number.proofs.Signed.{same-bits}
 use Rattle.runs.specs.RunAt.{runOf, Running, RunAt, sameKey, sameFrom}
-
--- keys have the same bits where they are the same
-pub same-bits : (a b : ℤ) → SFits w64 a → SFits w64 b → eqb (ofZ w64 a) (ofZ w64 b) ≡ eqZ a b
-same-bits (pos a) (pos b) f g = refl
-same-bits (pos a) (negsuc b) f g = ne-eqb a (2 ^ 64 - suc b) (λ e. omega (arith, f .sfits, g .sfits))
-same-bits (negsuc a) (pos b) f g = ne-eqb (2 ^ 64 - suc a) b (λ e. omega (arith, f .sfits, g .sfits))
-same-bits (negsuc a) (negsuc b) f g = go (eqb a b) refl
-  where
-    go : (t : Bool) → eqb a b ≡ t → eqb (2 ^ 64 - suc a) (2 ^ 64 - suc b) ≡ t
-    go true e = eq-eqb (2 ^ 64 - suc a) (2 ^ 64 - suc b) (omega (arith, eqb-true a b e))
-    go false e = ne-eqb (2 ^ 64 - suc a) (2 ^ 64 - suc b) (λ h. eqb-false a b e (omega (arith, f .sfits, g .sfits)))
 
 -- a walk meets the same value once more,
 walk-same : (key v : ℤ) (times : ℕ) (vs : List ℤ) → eqZ key v ≡ true → runsFrom key times (v ∷ vs) ≡ runsFrom key (times + 1) vs
@@ -45,7 +33,7 @@ walk-other key v times vs e = rw e
 -- keys that were read are compared by their bits
 pub same-key : (column : List ℤ) (start at : ℕ) → mag (getD column start (pos 0)) < 2 ^ 63 → mag (getD column at (pos 0)) < 2 ^ 63
     → eqb (ofZ w64 (getD column start (pos 0))) (ofZ w64 (getD column at (pos 0))) ≡ sameKey column start at
-same-key column start at f g = same-bits (getD column start (pos 0)) (getD column at (pos 0)) (sfits-of f) (sfits-of g)
+same-key column start at f g = same-bits (getD column start (pos 0)) (getD column at (pos 0)) f g
 
 module _ (column : List ℤ) where
   -- a run begins with one value

@@ -14,6 +14,7 @@ ghost use Rattle.runs.specs.RunAt.{RunAt, Running, sameKey, sameFrom};
 use codec::header::header_len;
 use places::put_uvarint;
 use places::put_varint;
+use varint::uvarint_len_small;
 
 // Whether the value at `at` is the run's, which begins at `start`.
 fn same_key(column: &[i64], start: usize, at: usize) -> bool
@@ -105,21 +106,11 @@ pub(crate) fn count_runs(column: &[i64]) -> usize
     count
 }
 
-// How many bytes a varint has. Most have one, and for these no leading zeros are counted.
-fn len_of(value: u64) -> usize
-    ensures { λ r. ⌜ r ≡ uvarintLen value ⌝ }
-{
-    if value < 128 {
-        return 1;
-    }
-    varint::uvarint_len(value)
-}
-
 // How many bytes a run has.
 fn run_len(key: i64, times: usize) -> usize
     ensures { λ r. ⌜ r ≡ varintLen key + uvarintLen times ⌝ }
 {
-    len_of(number::zigzag_encode(key)) + len_of(times as u64)
+    uvarint_len_small(number::zigzag_encode(key)) + uvarint_len_small(times as u64)
 }
 
 // How many bytes the runs have.

@@ -28,6 +28,16 @@ pub fn uvarint_len(value: u64) -> usize
     }
 }
 
+// The same where most values are below 128: for these no leading zeros are counted.
+pub fn uvarint_len_small(value: u64) -> usize
+    ensures { λ r. ⌜ r ≡ uvarintLen value ⌝ }
+{
+    if value < 128 {
+        return 1;
+    }
+    uvarint_len(value)
+}
+
 // How many bytes `write_varint` stores.
 pub fn varint_len(value: i64) -> usize
     ensures { λ r. ⌜ r ≡ varintLen value ⌝ }

@@ -13,13 +13,13 @@ use Rattle.runs.proofs.writing.run_len.Tie as tie
 add-result : tie.Need-add-result
 add-result c =
     let most = uvarintLen-le (c .before .before .zigzag-encode .result) in
-    omega (arith, c .before .len-of .ensures, c .len-of2 .ensures, most, uvarintLen-le (c .before .before .before .args .times))
+    omega (arith, c .before .uvarint-len-small .ensures, c .uvarint-len-small2 .ensures, most, uvarintLen-le (c .before .before .before .args .times))
 
 returns : tie.Need-returns
 unfolding varintLen
 returns c =
     let key = c .before .before .zigzag-encode .ensures ∙ ap zigzag (toZ-ofZ (c .before .before .before .fits .key)) in
-    ap₂ (λ (a b : ℕ). a + b) (c .before .len-of .ensures ∙ ap uvarintLen key) (c .len-of2 .ensures)
+    ap₂ (λ (a b : ℕ). a + b) (c .before .uvarint-len-small .ensures ∙ ap uvarintLen key) (c .uvarint-len-small2 .ensures)
 
 pub run-len-spec : {M : Type 1} → statement M
 run-len-spec = tie.close (tie.spec (λ c κs. search needs) (λ c κs. search needs) (λ c κs. search needs) add-result returns)
