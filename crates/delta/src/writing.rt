@@ -12,8 +12,6 @@ ghost use Rattle.format.specs.Folds.{least, greatest, deltas};
 ghost use Rattle.format.specs.Delta.{blockBytes, deltaBody};
 ghost use Rattle.delta.specs.Written.{blocksOf};
 use format::limits::DELTA_BLOCK_SIZE;
-use number::bits_of;
-use number::wrapping_sub;
 use places::block::at_most;
 use places::block::packed_bytes;
 use places::put_packed;
@@ -31,7 +29,7 @@ fn delta_at(window: &[i64], i: usize) -> i64
     requires { ⌜ i + 1 < length (now window) ⌝ }
     ensures { λ r. ⌜ r ≡ delta (getD (now (window .entry)) i (pos 0)) (getD (now (window .entry)) (i + 1) (pos 0)) ⌝ }
 {
-    wrapping_sub(window[i + 1], window[i])
+    number::wrapping_sub(window[i + 1], window[i])
 }
 
 // The bounds of a window's deltas.
@@ -56,7 +54,7 @@ fn bounds_of(window: &[i64]) -> Bounds
 fn span_width(low: i64, high: i64) -> u32
     ensures { λ r. ⌜ r ≡ width (gap low high) ⌝ }
 {
-    number::required_width(bits_of(wrapping_sub(high, low)))
+    number::required_width(number::gap(low, high))
 }
 
 // The offsets of a window's deltas from the least of them, at the front of `block`.
@@ -66,7 +64,7 @@ fn offsets(window: &[i64], low: i64, block: &mut [u64])
 {
     let mut i: usize = 0;
     while i + 1 < window.len() {
-        block[i] = bits_of(wrapping_sub(delta_at(window, i), low));
+        block[i] = number::gap(low, delta_at(window, i));
         i += 1;
     }
 }

@@ -17,13 +17,6 @@ pub(crate) struct Fit {
     pub width: u32,
 }
 
-// How far a value lies above the least: it may be any number of 64 bits.
-fn difference(value: i64, least: i64) -> u64
-    ensures { λ r. ⌜ r ≡ gap least value ⌝ }
-{
-    number::bits_of(number::wrapping_sub(value, least))
-}
-
 // One walk finds the least and the greatest value, and the largest difference is that of the greatest.
 pub(crate) fn fit_of(column: &[i64]) -> Fit
     ensures { λ r. ⌜ Fitted (now (column .entry)) r ⌝ }
@@ -40,7 +33,7 @@ pub(crate) fn fit_of(column: &[i64]) -> Fit
     }
     Fit {
         least,
-        width: number::required_width(difference(greatest, least)),
+        width: number::required_width(number::gap(least, greatest)),
     }
 }
 
@@ -50,7 +43,7 @@ fn differences(part: &[i64], least: i64, block: &mut [u64])
     ensures { λ _. ⌜ now (block .exit) ≡ sets (now (block .entry)) 0 (map (gap least) (now (part .entry))) ⌝ }
 {
     for j in 0..part.len() {
-        block[j] = difference(part[j], least);
+        block[j] = number::gap(least, part[j]);
     }
 }
 

@@ -7,10 +7,10 @@ use mir.Syntax.{w64}
 use mir.Val.{toZ, ofZ}
 use denote.Ref.{now}
 use borrow.Author.Needs.{needs}
-use Rattle.format.specs.Keys.{residue, gap, delta}
+use Rattle.format.specs.Keys.{gap}
 use Rattle.format.specs.Folds.{deltas}
 use Rattle.format.proofs.numbers.Stores.{Storing, storing-none, storing-done}
-use Rattle.number.proofs.Signed.{held, delta-bits}
+use Rattle.number.proofs.Signed.{held}
 use Rattle.delta.proofs.Bounding.{offset-more, offset-none}
 use Rattle.delta.proofs.writing.offsets.Statement.{statement}
 use Rattle.delta.proofs.writing.offsets.Tie as tie
@@ -27,11 +27,10 @@ loop-holds c = (storing-none, search needs)
 
 loop-again : tie.Need-loop-again Inv-loop μ-loop
 loop-again c =
-    let l = c .before .before .before .before .loop in
-    let a = c .before .before .before .before .before .before .args in
-    let d = c .before .before .delta-at in
-    let o = c .before .wrapping-sub in
-    let v = c .bits-of .ensures ∙ ap residue (held _ (o .ok) ∙ o .ensures ∙ ap (delta (toZ w64 (ofZ w64 (a .low)))) (held _ (d .ok) ∙ d .ensures)) ∙ delta-bits _ _ in
+    let l = c .before .before .before .loop in
+    let a = c .before .before .before .before .before .args in
+    let d = c .before .delta-at in
+    let v = c .gap .ensures ∙ ap (gap (toZ w64 (ofZ w64 (a .low)))) (held _ (d .ok) ∙ d .ensures) in
     (offset-more (now (a .window)) _ (l .i) (l .inv .0) (search needs) v, search needs)
 
 returns : tie.Need-returns Inv-loop μ-loop
@@ -43,5 +42,5 @@ returns c =
 pub offsets-spec : {M : Type 1} → statement M
 offsets-spec =
     tie.close
-    (tie.spec Inv-loop μ-loop loop-holds (λ c. search needs) (λ c κs. search needs) (λ c κs. search needs) (λ c κs. search needs) (λ c. search needs)
+    (tie.spec Inv-loop μ-loop loop-holds (λ c. search needs) (λ c κs. search needs) (λ c κs. search needs) (λ c. search needs)
     (λ c. search needs) (λ c. search needs) (λ c. search needs) loop-again (λ c. search needs) returns)

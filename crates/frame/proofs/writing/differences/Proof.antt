@@ -27,7 +27,7 @@ loop-again : tie.Need-loop-again Inv-loop μ-loop
 loop-again c =
     let l = c .before .before .before .loop in
     let v = getD (now (c .before .before .before .before .before .args .part)) (l .j) (pos 0) in
-    mapping-more (gap _) (l .inv) (pos 0) (omega arith) (omega arith) (c .difference .ensures ∙ ap (gap _) (held v (c .before .difference-arg .given)))
+    mapping-more (gap _) (l .inv) (pos 0) (omega arith) (omega arith) (c .gap .ensures ∙ ap (gap _) (held v (c .before .gap-arg .given)))
 
 returns : tie.Need-returns Inv-loop μ-loop
 returns c =

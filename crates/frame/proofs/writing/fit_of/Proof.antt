@@ -39,7 +39,7 @@ returns-2 : tie.Need-returns-2 Inv-loop μ-loop
 returns-2 c =
     let b = c .before .before .before .loop .inv in
     let end = c .before .before .loop-test .left in
-    record { base = bounded-least b end; widest = c .required-width .ensures ∙ ap width (c .before .difference .ensures) ∙ bounded-width b end }
+    record { base = bounded-least b end; widest = c .required-width .ensures ∙ ap width (c .before .gap .ensures) ∙ bounded-width b end }
 
 pub fit-of-spec : {M : Type 1} → statement M
 fit-of-spec =
