@@ -1,7 +1,7 @@
 -- A Dictionary body, part by part: how long it is, and that the total, the entries, the width byte and the codes, stored one after the other, are the body.
 use mathlib.Core.Path.{_≡_, sym, ap, ap₂, _∙_}
 use mathlib.Core.List.{List, _∷_, _++_, map}
-use Prim.Native.Nat.{ℕ, _+_, _-_, _*_, _≤_, _<_}
+use Prim.Native.Nat.{ℕ, _+_, _-_, _≤_, _<_}
 use native.Mathlib.Numerals.{add-one}
 use native.Mathlib.Omega.{arith}
 use lib.IntN.{ℤ}
@@ -11,26 +11,14 @@ use Rattle.format.specs.Varint.{uvarintLen, uvarintBytes}
 use Rattle.format.specs.Packing.{packedLen, packed}
 use Rattle.format.specs.Dictionary.{entryBytes, codeOf, codeWidth, dictionaryBodyWith}
 use Rattle.format.specs.Standalone.{uvarintWriteOutcome}
-use Rattle.format.proofs.lengths.Limits.{entriesLen-most, codeWidth-le}
+use Rattle.format.proofs.lengths.Limits.{codeWidth-le}
 use Rattle.format.proofs.lengths.Parts.{length-entryBytes}
 use Rattle.format.proofs.numbers.Uvarints.{length-uvarintBytes}
-use Rattle.format.proofs.numbers.Packing.{length-packed, packedLen-most}
-use Rattle.format.proofs.numbers.Widths.{uvarintLen-le}
+use Rattle.format.proofs.numbers.Packing.{length-packed}
 use Rattle.format.proofs.numbers.Stores.{sets-append}
 use Rattle.places.specs.Places.{laid, laidEnd}
 use Rattle.places.proofs.Placing.{uvarint-laid}
-use Rattle.dictionary.specs.Body.{bodyLen}
-
--- at most ten bytes for every varint, and eight for every code
-pub bodyLen-most : (entries : List ℤ) (count : ℕ) → bodyLen entries count ≤ 11 + 10 * length entries + 8 * count
-unfolding bodyLen
-bodyLen-most entries count =
-    omega (
-      arith,
-      uvarintLen-le (length entries),
-      entriesLen-most entries,
-      packedLen-most count (codeWidth (length entries)) (codeWidth-le (length entries)),
-    )
+use Rattle.entries.specs.Measured.{bodyLen}
 
 module _ (entries column : List ℤ) where
   abbrev total : ℕ

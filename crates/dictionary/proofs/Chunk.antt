@@ -26,8 +26,9 @@ use Rattle.format.proofs.numbers.Distinct.{distinct-rising}
 use Rattle.codec.proofs.Writing.{length-chunk}
 use Rattle.distinct.specs.Collect.{countOutcome, collectOutcome}
 use Rattle.distinct.proofs.Answering.{Collected}
-use Rattle.dictionary.specs.Body.{bodyLen}
-use Rattle.dictionary.proofs.Body.{bodyLen-most, body-length}
+use Rattle.entries.specs.Measured.{bodyLen, measured}
+use Rattle.entries.proofs.Limits.{bodyLen-most, measured-within}
+use Rattle.dictionary.proofs.Body.{body-length}
 
 -- ---- the entries at the front of the scratch
 
@@ -46,13 +47,16 @@ module _ {column scratch : List ℤ} {n : ℕ} (c : Collected column scratch n) 
   pub entries-length : bodyLen (take n scratch) (length column) ≡ length (bodyOf Dictionary column)
   entries-length = sym (body-length (take n scratch) column) ∙ ap length entries-body
 
-  -- as much as is measured
-  pub entries-most : bodyLen (take n scratch) (length column) ≤ 11 + 10 * n + 8 * length column
-  entries-most = rw (length-take-le n scratch (c .there)) at (bodyLen-most (take n scratch) (length column))
+  -- it is what is measured
+  same-measured : measured (take n scratch) (length column) ≡ bodyLen (take n scratch) (length column)
+  same-measured = measured-within (take n scratch) (length column) (c .few) (rw (length-take-le n scratch (c .there)) (c .most))
 
-  pub entries-measured : {header body : ℕ} → header ≡ headerLen (length column) → body ≡ bodyLen (take n scratch) (length column)
+  pub entries-most : measured (take n scratch) (length column) ≤ 11 + 10 * n + 8 * length column
+  entries-most = rw same-measured (rw (length-take-le n scratch (c .there)) at (bodyLen-most (take n scratch) (length column)))
+
+  pub entries-measured : {header body : ℕ} → header ≡ headerLen (length column) → body ≡ measured (take n scratch) (length column)
       → header + body ≡ headerLen (length column) + length (bodyOf Dictionary column)
-  entries-measured h b = omega (arith, entries-length)
+  entries-measured h b = omega (arith, same-measured, entries-length)
 
 -- ---- the questions
 

@@ -1,31 +1,23 @@
--- The entries, one after the other: the first one's varint and then a varint for every gap. A loop over them has measured or stored the bytes up to an entry `last`, and
--- those of the gaps after it are still to come.
+-- The entries, one after the other: the first one's varint and then a varint for every gap. A loop over them has stored the bytes up to an entry `last`, and those
+-- of the gaps after it are still to come.
 use mathlib.Core.Path.{_≡_, refl, sym, ap, ap₂, _∙_}
 use mathlib.Core.List.{List, [], _∷_, _++_}
-use Prim.Native.Nat.{ℕ, _+_, _-_, _*_, _≤_, _<_}
+use Prim.Native.Nat.{ℕ, _+_, _-_, _≤_, _<_}
 use native.Mathlib.Numerals.{add-one}
 use native.Mathlib.Omega.{arith}
 use lib.IntN.{ℤ, pos}
 use lib.ListN.{length, getD, drop, length-append, drop-of-length-le}
 use lib.Seq.{sets, length-sets, drop-cons}
-use Rattle.format.specs.Keys.{residue, gap, delta, zigzag}
-use Rattle.format.specs.Varint.{uvarintLen, uvarintBytes, varintLen, varintBytes}
+use Rattle.format.specs.Keys.{gap, zigzag}
+use Rattle.format.specs.Varint.{uvarintBytes, varintBytes}
 use Rattle.format.specs.Dictionary.{gapBytes, entryBytes}
-use Rattle.format.specs.Estimates.{gapsLen, entriesLen}
 use Rattle.format.specs.Standalone.{uvarintWriteOutcome}
-use Rattle.format.proofs.numbers.Keys.{residue-asSigned, gap-lt}
 use Rattle.format.proofs.numbers.Uvarints.{length-uvarintBytes}
-use Rattle.format.proofs.numbers.Widths.{uvarintLen-le}
 use Rattle.format.proofs.numbers.Stores.{sets-append, Storing, storing-none, storing-part, storing-room, storing-done, storing-end}
 use Rattle.places.specs.Places.{laid, laidEnd}
 use Rattle.places.proofs.Placing.{uvarint-laid}
 
 -- ---- the bytes of the entries
-
--- a gap is the delta's bits
-pub delta-bits : (a b : ℤ) → residue (delta a b) ≡ gap a b
-unfolding delta
-delta-bits a b = residue-asSigned (gap a b) (gap-lt a b)
 
 pub entries-none : (entries : List ℤ) → length entries ≡ 0 → entryBytes entries ≡ []
 unfolding entryBytes
@@ -46,36 +38,6 @@ module _ (entries : List ℤ) (last : ℤ) (i : ℕ) where
   entries-end : length entries ≤ i → gapBytes last (drop i entries) ≡ []
   unfolding gapBytes
   entries-end h = ap (gapBytes last) (drop-of-length-le entries h)
-
--- ---- measuring
-
--- the bytes of the first i entries, at most ten for each
-pub record Measuring (entries : List ℤ) (last : ℤ) (sum i : ℕ) : Type 0 where
-  pub upto : i ≤ length entries
-  pub most : sum ≤ 10 * i
-  pub rest : sum + gapsLen last (drop i entries) ≡ entriesLen entries
-
-pub measuring-none : (entries : List ℤ) → length entries ≡ 0 → 0 ≡ entriesLen entries
-unfolding entriesLen
-measuring-none [] e = refl
-measuring-none (v ∷ vs) e = absurd (omega arith)
-
-pub measuring-first : (entries : List ℤ) {last : ℤ} {n : ℕ} → 0 < length entries → last ≡ getD entries 0 (pos 0) → n ≡ varintLen last → Measuring entries last n 1
-unfolding entriesLen varintLen
-measuring-first [] h e l = absurd (omega arith)
-measuring-first (v ∷ vs) {last} h e l = record { upto = h; most = omega (arith, uvarintLen-le (zigzag last)); rest = rw (l, e) }
-
-module _ (entries : List ℤ) {last : ℤ} {sum i : ℕ} (m : Measuring entries last sum i) where
-  pub measuring-more : {entry : ℤ} {x n : ℕ} → i < length entries → entry ≡ getD entries i (pos 0) → x ≡ gap last entry → n ≡ uvarintLen x
-      → Measuring entries entry (sum + n) (i + 1)
-  unfolding gapsLen
-  measuring-more {x} h e ex l =
-      let next = ap (gapsLen last) (drop-cons entries i (pos 0) h) in
-      record { upto = omega arith; most = omega (arith, m .most, uvarintLen-le x); rest = rw (l, ex, e, add-one i) (omega (arith, m .rest, next)) }
-
-  pub measuring-done : length entries ≤ i → sum ≡ entriesLen entries
-  unfolding gapsLen
-  measuring-done h = omega (arith, m .rest, ap (gapsLen last) (drop-of-length-le entries h))
 
 -- ---- storing
 

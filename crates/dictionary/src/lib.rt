@@ -10,6 +10,7 @@ use codec::header::header_len;
 use codec::header::put_header;
 use codec::header::read_header;
 use codec::header::refusal_of_header;
+use entries::body_len;
 use format::Answer;
 use format::Encoding;
 use format::HeaderAnswer;
@@ -30,7 +31,7 @@ pub fn encode(column: &[i64], scratch: &mut [i64], out: &mut [u8]) -> Answer
     let Answer::Accepted(entries) = collected else {
         return collected;
     };
-    let needed = header_len(column.len()) + writing::body_len(&scratch[..entries], column.len());
+    let needed = header_len(column.len()) + body_len(&scratch[..entries], column.len());
     if out.len() < needed {
         return Answer::Refused(format::refusal::BUFFER_TOO_SHORT, needed);
     }

@@ -1,57 +1,20 @@
-// The parts of a body, measured and stored: the entries, which are the column's distinct values, and a code for each value, its
-// place among them.
+// The parts of a body, stored: the entries, which are the column's distinct values, and a code for each value, its place among
+// them.
 ghost use mathlib.Core.Path.{_≡_};
 ghost use mathlib.Core.List.{map};
 ghost use Prim.Native.Nat.{_+_, _≤_, _<_};
 ghost use lib.ListN.{length};
 ghost use lib.Seq.{sets};
-ghost use Rattle.format.specs.Keys.{gap};
 ghost use Rattle.format.specs.Packing.{packedLen, packed};
-ghost use Rattle.format.specs.Encodings.{maxChunkElements, maxDictionaryCardinality};
-ghost use Rattle.format.specs.Dictionary.{entryBytes, codeOf, codeWidth, dictionaryBodyWith};
-ghost use Rattle.format.specs.Estimates.{entriesLen};
+ghost use Rattle.format.specs.Dictionary.{entryBytes, codeOf, dictionaryBodyWith};
 ghost use Rattle.format.specs.Distinct.{Rising};
-ghost use Rattle.dictionary.specs.Body.{bodyLen};
+ghost use Rattle.entries.specs.Measured.{bodyLen};
 use crate::guess::rank;
+use entries::code_width;
 use places::block::block_len;
 use places::put_packed;
 use places::put_uvarint;
 use places::put_varint;
-
-// How far an entry lies above the one before it: it may be any number of 64 bits.
-fn gap_after(last: i64, entry: i64) -> u64
-    ensures { λ r. ⌜ r ≡ gap last entry ⌝ }
-{
-    number::bits_of(number::wrapping_sub(entry, last))
-}
-
-// The width of the codes for so many entries, which is that of the last code.
-fn code_width(entries: usize) -> u32
-    ensures { λ r. ⌜ r ≡ codeWidth entries ⌝ }
-{
-    if entries == 0 {
-        return 0;
-    }
-    number::required_width((entries - 1) as u64)
-}
-
-// How many bytes the entries have.
-fn entries_len(entries: &[i64]) -> usize
-    requires { ⌜ length (now entries) ≤ maxDictionaryCardinality ⌝ }
-    ensures { λ r. ⌜ r ≡ entriesLen (now (entries .entry)) ⌝ }
-{
-    if entries.len() == 0 {
-        return 0;
-    }
-    let mut last = entries[0];
-    let mut sum = varint::varint_len(last);
-    for i in 1..entries.len() {
-        let entry = entries[i];
-        sum += varint::uvarint_len(gap_after(last, entry));
-        last = entry;
-    }
-    sum
-}
 
 // Stores the entries from `start` on, and returns the place after them.
 fn put_entries(entries: &[i64], out: &mut [u8], start: usize) -> usize
@@ -66,19 +29,10 @@ fn put_entries(entries: &[i64], out: &mut [u8], start: usize) -> usize
     let mut at = put_varint(last, out, start);
     for i in 1..entries.len() {
         let entry = entries[i];
-        at = put_uvarint(gap_after(last, entry), out, at);
+        at = put_uvarint(number::gap(last, entry), out, at);
         last = entry;
     }
     at
-}
-
-// How many bytes the body has for these entries and `count` values.
-pub(crate) fn body_len(entries: &[i64], count: usize) -> usize
-    requires { ⌜ (length (now entries) ≤ maxDictionaryCardinality) × (count ≤ maxChunkElements) ⌝ }
-    ensures { λ r. ⌜ r ≡ bodyLen (now (entries .entry)) count ⌝ }
-{
-    let width = code_width(entries.len()) as usize;
-    varint::uvarint_len(entries.len() as u64) + entries_len(entries) + 1 + (count * width + 7) / 8
 }
 
 // The codes of a part of the column, at the front of `block`.

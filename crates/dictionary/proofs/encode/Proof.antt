@@ -50,9 +50,6 @@ slice-reshare-prefix-body-len c = held (c .before) .there
 slice-aggregate-body-len : tie.Need-slice-aggregate-body-len
 slice-aggregate-body-len c = sym (length-take-le _ _ (held (c .before .before) .there))
 
-body-len-requires : tie.Need-body-len-requires
-body-len-requires c κs = let h = held (c .before .before) in (rw (length-take-le _ _ (h .there)) (h .most), h .few)
-
 -- ---- what is measured
 
 -- the length of the chunk
@@ -123,7 +120,7 @@ encode-spec =
     (λ c κs. search needs)
     slice-reshare-prefix-body-len
     slice-aggregate-body-len
-    body-len-requires
+    (λ c κs. search needs)
     add-needed
     (λ c. search needs)
     returns-2

@@ -33,7 +33,7 @@ loop-again c =
     let e = p .before .before .before .before in
     let start = e .before .before .before in
     putting-more _ (now (start .args .out)) _ (search needs) (start .pre) (read-back (e .last .given)) (p .before .before .put-varint .ensures) (l .loop .inv) (turn .before .loop-test .taken)
-    (read-back (turn .entry .given)) (c .before .before .before .before .gap-after .ensures) (c .before .before .put-uvarint .ensures)
+    (read-back (turn .entry .given)) (c .before .before .before .before .gap .ensures) (c .before .before .put-uvarint .ensures)
 
 same-length : tie.Need-same-length Inv-loop μ-loop
 same-length c =

@@ -6,10 +6,10 @@ use mir.Syntax.{w64}
 use mir.Val.{toZ}
 use denote.Ref.{now}
 use borrow.Author.Needs.{needs}
-use Rattle.distinct.proofs.Machine.{read-back}
-use Rattle.dictionary.proofs.Entries.{Measuring, measuring-none, measuring-first, measuring-more, measuring-done}
-use Rattle.dictionary.proofs.writing.entries_len.Statement.{statement}
-use Rattle.dictionary.proofs.writing.entries_len.Tie as tie
+use Rattle.number.proofs.Signed.{held}
+use Rattle.entries.proofs.Measuring.{Measuring, measuring-none, measuring-first, measuring-more, measuring-done}
+use Rattle.entries.proofs.entries_len.Statement.{statement}
+use Rattle.entries.proofs.entries_len.Tie as tie
 
 abbrev Inv-loop : tie.InvT-loop
 Inv-loop entries last₀ sum₀ i₀ i-end last sum i = Measuring entries (toZ w64 last) sum i
@@ -21,12 +21,12 @@ returns : tie.Need-returns Inv-loop μ-loop
 returns c = measuring-none (now (c .before .args .entries)) (c .if1 .taken)
 
 loop-holds : tie.Need-loop-holds Inv-loop μ-loop
-loop-holds c = measuring-first _ (search needs) (read-back (c .before .last .given)) (c .varint-len .ensures)
+loop-holds c = measuring-first _ (search needs) (held _ (c .before .last .given)) (c .varint-len .ensures)
 
 loop-again : tie.Need-loop-again Inv-loop μ-loop
 loop-again c =
     let turn = c .before .before in
-    measuring-more _ (turn .before .before .loop .inv) (turn .before .loop-test .taken) (read-back (turn .entry .given)) (c .before .gap-after .ensures) (c .uvarint-len .ensures)
+    measuring-more _ (turn .before .before .loop .inv) (turn .before .loop-test .taken) (held _ (turn .entry .given)) (c .before .gap .ensures) (c .uvarint-len .ensures)
 
 add-sum : tie.Need-add-sum Inv-loop μ-loop
 add-sum c = omega (arith, loop-again c .most, loop-again c .upto)

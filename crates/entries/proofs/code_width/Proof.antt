@@ -3,8 +3,8 @@ use lib.Count.{leadingZeros}
 use borrow.Author.Needs.{needs}
 use Rattle.format.specs.Width.{width}
 use Rattle.format.specs.Dictionary.{codeWidth}
-use Rattle.dictionary.proofs.writing.code_width.Statement.{statement}
-use Rattle.dictionary.proofs.writing.code_width.Tie as tie
+use Rattle.entries.proofs.code_width.Statement.{statement}
+use Rattle.entries.proofs.code_width.Tie as tie
 
 returns : tie.Need-returns
 unfolding codeWidth width leadingZeros
