@@ -1,0 +1,5 @@
+pub mod Fields
+pub mod Folds
+pub mod Walking
+pub mod Answering
+pub mod Recording
