@@ -19,6 +19,7 @@ use Rattle.format.specs.Distinct.{tooManyDistinct, scratchCheck}
 use Rattle.format.specs.Read.{validate, strictChecks, readOutcome, readAnswer, readColumn}
 use Rattle.format.specs.ThirdDemand.{NamedFor, unnamed-reading, named-reading}
 use Rattle.format.specs.Write.{forDictionary, writeChecks, writeOutcome, writeAnswer, writeOutput}
+use Rattle.format.specs.declared.Answer.{Answer}
 use Rattle.format.specs.declared.Answer.the-variants.{Accepted, Refused}
 use Rattle.format.specs.declared.Encoding.{Encoding}
 use Rattle.format.specs.declared.Padded.the-variants.{Nowhere}
@@ -119,16 +120,20 @@ module _ (number : ℕ) (column : List ℤ) (room : ℕ) (output : List ℕ) (pl
             let same : n ≡ length bytes = cc in
             (bytes, refl, same, omega (arith, same, length-append bytes (drop (length bytes) output)), take-at bytes (drop (length bytes) output) n (sym same))
 
-    pub back-read : Keys column → (name strict : Bool)
-        → (readAnswer strict (namingOf name number) (take n (writeOutput number column room output)) (length places)
-        ≡ storedAnswer (backOutcome number column room (length output) (length places)))
-        × (readColumn strict (namingOf name number) (take n (writeOutput number column room output)) places
-        ≡ bufferAfter (backOutcome number column room (length output) (length places)) places)
+    -- what reading that front answers and leaves
+    pub back-read :
+        Keys column → (name strict : Bool) {after : List ℕ} {answer : Answer} {places-after : List ℤ} → after ≡ writeOutput number column room output
+        → (answer ≡ readAnswer strict (namingOf name number) (take n after) (length places))
+        × (places-after ≡ readColumn strict (namingOf name number) (take n after) places)
+        → (answer ≡ storedAnswer (backOutcome number column room (length output) (length places)))
+        × (places-after ≡ bufferAfter (backOutcome number column room (length output) (length places)) places)
     unfolding backOutcome
-    back-read ks name strict =
+    back-read ks name strict is done =
         let f = back-front in
         let c = chunk-found number column room (length output) (f .1) in
-        rw (f .4, f .1, c .bytes-are) (chunk-read (c .encoding) strict column ks (c .few) (reading name (c .numbered)) places)
+        let all = chunk-read (c .encoding) strict column ks (c .few) (reading name (c .numbered)) places in
+        let read = rw (is, f .4, c .bytes-are) at done in
+        rw (f .1) (read .0 ∙ all .0, read .1 ∙ all .1)
       where
         reading : (b : Bool) {e : Encoding} → number ≡ idOf e → NamedFor e (namingOf b number)
         reading true p = rw p named-reading

@@ -1,8 +1,7 @@
 // The two public calls of the Rust's integer.rs, `encode_integers` and `decode_integers`, and the reading that names its encoding.
 // The Rust's trait `Codec` is a match on `Encoding`.
 ghost use mathlib.Core.Path.{_≡_};
-ghost use Prim.Native.Nat.{_≤_};
-ghost use lib.ListN.{length, take};
+ghost use lib.ListN.{length};
 ghost use Rattle.format.specs.Answers.{storedAnswer, bufferAfter};
 ghost use Rattle.format.specs.Encodings.{idOf};
 ghost use Rattle.format.specs.Header.{unnamed, named};
@@ -86,36 +85,33 @@ pub fn decode_named(chunk: &[u8], name: u32, strict: bool, column: &mut [i64]) -
     decode_as(encoding, chunk, strict, column)
 }
 
-// Reads the first n bytes of `bytes`, named by a number or not.
-fn decode_front(
-    bytes: &[u8],
-    n: usize,
+// Reads a chunk by one of the two calls above: by the one that names an encoding, by its number, or by the other.
+pub fn decode_either(
+    chunk: &[u8],
     number: u32,
     naming: bool,
     strict: bool,
     column: &mut [i64],
 ) -> Answer
-    requires { ⌜ n ≤ length (now bytes) ⌝ }
-    ensures { λ r. ⌜ r ≡ readAnswer strict (namingOf naming number) (take n (now (bytes .entry))) (length (now (column .entry))) ⌝ }
-    ensures { λ r. ⌜ now (column .exit) ≡ readColumn strict (namingOf naming number) (take n (now (bytes .entry))) (now (column .entry)) ⌝ }
+    ensures { λ r. ⌜ r ≡ readAnswer strict (namingOf naming number) (now (chunk .entry)) (length (now (column .entry))) ⌝ }
+    ensures { λ r. ⌜ now (column .exit) ≡ readColumn strict (namingOf naming number) (now (chunk .entry)) (now (column .entry)) ⌝ }
 {
     if naming {
-        return decode_named(&bytes[..n], number, strict, column);
+        return decode_named(chunk, number, strict, column);
     }
-    decode_integers(&bytes[..n], strict, column)
+    decode_integers(chunk, strict, column)
 }
 
-// Every value is a key: of 64 bits. A function knows that only of what it reads, and the law of the round trip asks it of all.
-fn read_all(column: &[i64]) -> i64
+// Reads every value, and so knows that each is a key: of 64 bits. A function knows that only of what it reads, and the law of the
+// round trip asks it of all.
+pub fn read_all(column: &[i64])
     ensures { λ _. ⌜ Keys (now (column .entry)) ⌝ }
 {
-    let mut last = 0;
     let mut i = 0;
     while i < column.len() {
-        last = column[i];
+        let _key = column[i];
         i += 1;
     }
-    last
 }
 
 // Writes a column and reads the bytes that writing stored, named by the same number or not, strictly or not: the keys come
@@ -139,5 +135,5 @@ pub fn encode_then_decode(
     let Answer::Accepted(n) = written else {
         return written;
     };
-    decode_front(out, n, number, naming, strict, back)
+    decode_either(&out[..n], number, naming, strict, back)
 }

@@ -10,16 +10,18 @@ use Rattle.integer.proofs.read_all.Statement.{statement}
 use Rattle.integer.proofs.read_all.Tie as tie
 
 abbrev Inv-loop : tie.InvT-loop
-Inv-loop column last₀ i₀ last i = (j : ℕ) → j < i → mag (getD column j (pos 0)) < 2 ^ 63
+Inv-loop column i₀ i = (j : ℕ) → j < i → mag (getD column j (pos 0)) < 2 ^ 63
 
 abbrev μ-loop : tie.MeasureT-loop
-μ-loop column last₀ i₀ last i = length column - i
+μ-loop column i₀ i = length column - i
 
 loop-holds : tie.Need-loop-holds Inv-loop μ-loop
 loop-holds c j h = absurd (omega arith)
 
 loop-again : tie.Need-loop-again Inv-loop μ-loop
-loop-again c = below-more (λ j. mag (getD (c .before .before .before .args .column .now) j (pos 0)) < 2 ^ 63) (c .before .before .loop .i) (c .before .before .loop .inv) (c .last .given)
+loop-again c =
+    let at = c .before .before in
+    below-more (λ j. mag (getD (at .before .args .column .now) j (pos 0)) < 2 ^ 63) (at .loop .i) (at .loop .inv) (c .-key .given)
 
 returns : tie.Need-returns Inv-loop μ-loop
 returns c i h = c .before .loop .inv i (omega (arith, c .loop-test .left))
