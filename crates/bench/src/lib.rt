@@ -8,12 +8,14 @@ ghost use mathlib.Core.Path.{_≡_};
 ghost use lib.ListN.{length};
 ghost use Rattle.format.specs.Answers.{stored};
 ghost use Rattle.format.specs.Header.{unnamed};
+ghost use Rattle.format.specs.Plan.{planAnswer, planScratch};
 ghost use Rattle.format.specs.Read.{readAnswer, readColumn};
 ghost use Rattle.format.specs.Standalone.{packAnswer, packOutput, unpackAnswer, unpackBuffer};
 ghost use Rattle.format.specs.Write.{writeAnswer, writeOutput, writeScratch};
-ghost use Rattle.bench.specs.Flat.{flat};
+ghost use Rattle.bench.specs.Flat.{flat, flatPlan};
 ghost use Rattle.bench.specs.Rows.{rowValues, rowBytes};
 use format::Answer;
+use format::PlanAnswer;
 use format::UvarintAnswer;
 
 // An answer in three numbers: the refusal's number and offset, both 0 where it is accepted, and the count of values or
@@ -39,6 +41,29 @@ fn flat_answer(answer: Answer) -> FlatAnswer
             offset,
             count: 0,
         },
+    }
+}
+
+// A plan's answer, and what of the plan the driver compares: the id of its encoding, and two lengths.
+#[repr(C)]
+pub struct FlatPlan {
+    pub answer: FlatAnswer,
+    pub encoding: u32,
+    pub estimated_bytes: usize,
+    pub plain_bytes: usize,
+}
+
+fn flat_plan(planned: PlanAnswer) -> FlatPlan
+    ensures { λ r. ⌜ r ≡ flatPlan planned ⌝ }
+{
+    let answer = planned.answer;
+    let plan = planned.plan;
+    let encoding = plan.encoding;
+    FlatPlan {
+        answer: flat_answer(answer),
+        encoding: codec::encoding_id(encoding),
+        estimated_bytes: plan.estimated_bytes,
+        plain_bytes: plan.plain_bytes,
     }
 }
 
@@ -125,4 +150,13 @@ pub extern "C" fn bench_decode(chunk: &[u8], strict: bool, column: &mut [i64]) -
     ensures { λ r. ⌜ now (column .exit) ≡ readColumn strict unnamed (now (chunk .entry)) (now (column .entry)) ⌝ }
 {
     flat_answer(integer::decode_integers(chunk, strict, column))
+}
+
+// Plans a column at a level.
+#[no_mangle]
+pub extern "C" fn bench_analyze(column: &[i64], level: u32, scratch: &mut [i64]) -> FlatPlan
+    ensures { λ r. ⌜ r ≡ flatPlan (planAnswer level (now (column .entry)) (length (now (scratch .entry)))) ⌝ }
+    ensures { λ r. ⌜ now (scratch .exit) ≡ planScratch level (now (column .entry)) (now (scratch .entry)) ⌝ }
+{
+    flat_plan(plan::analyze(column, level, scratch))
 }

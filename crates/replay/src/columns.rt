@@ -1,13 +1,15 @@
 // The original Rust's answers on columns, replayed: data/columns.bin. docs/ORACLE.md says what a record of each kind holds. The keys
-// of a record, which are stored or described, go into one buffer, of which each question is then asked by a module of its own: now
-// what is written. The statistics, the estimates and the plans are not compared yet: the port has none.
+// of a record, which are stored or described, go into one buffer, of which each question is then asked by a module of its own: what
+// is found in the column, what is planned, and what is written.
 ghost use Prim.Native.Nat.{_≤_};
+use crate::analysed;
 use crate::buffers;
 use crate::buffers::KEYS;
 use crate::fields::after;
 use crate::fields::u8_at;
 use crate::fields::u32_at;
 use crate::keys;
+use crate::planned;
 use crate::records::COUNTS;
 use crate::text;
 use crate::written;
@@ -26,8 +28,13 @@ pub(crate) fn report(place: usize, n: u64) {
         1 => text::count(b"columns, stored: ", n),
         2 => text::count(b"columns, described: ", n),
         3 => text::count(b"encodings that write no keys: ", n),
-        _ => written::report(place, n),
+        _ => report_more(place, n),
     }
+}
+
+fn report_more(place: usize, n: u64) {
+    planned::report(place, n);
+    written::report(place, n);
 }
 
 // Kind 1, a column and its chunks, stored; kind 2, a column by its formula, and its chunks by their lengths and checksums.
@@ -38,7 +45,14 @@ fn column_holds(r: &[u8], is_stored: bool, held: &mut [u64; COUNTS]) -> bool {
     }
     let mut column = buffers::old_keys();
     load(r, is_stored, &mut column);
-    is_whole(r, is_stored) & written::chunks_hold(r, is_stored, &column[..count], held)
+    is_whole(r, is_stored) & keys_hold(r, is_stored, &column[..count], held)
+}
+
+fn keys_hold(r: &[u8], is_stored: bool, column: &[i64], held: &mut [u64; COUNTS]) -> bool {
+    let mut scratch = buffers::old_keys();
+    analysed::holds(r, is_stored, column, &mut scratch)
+        & planned::plans_hold(r, column, &scratch, held)
+        & written::chunks_hold(r, is_stored, column, held)
 }
 
 // Puts the record's keys into a buffer, which is longer. Stored, they are the end of the first chunk, Plain.

@@ -1,5 +1,5 @@
-// Document 01's sample sheet: the entries on chunks that are not proved; and two calls that no stored record makes, on the scratch. A
-// line for each: the port's answer, and whether it is document 01's.
+// Document 01's sample sheet: the entries on chunks and estimates that are not proved. A line for each: the port's answer, and whether it
+// is document 01's.
 use crate::buffers;
 use crate::buffers::OLD_KEY;
 use crate::chunks::UNNAMED;
@@ -8,26 +8,17 @@ use crate::fields::answer_is;
 use crate::fields::same_bytes;
 use crate::text;
 use format::Answer;
-use format::limits::MAX_DICTIONARY_CARDINALITY;
 use format::refusal::BUFFER_TOO_SHORT;
-use format::refusal::SCRATCH_TOO_SHORT;
-use format::refusal::TOO_MANY_DISTINCT;
-
-const DICTIONARY: u32 = 6;
 
 const DELTA: u32 = 7;
 
 const KEYS: usize = 130;
-
-const ONE_TOO_MANY: usize = 16385;
 
 pub(crate) fn run() {
     rising_at_the_end();
     counts();
     block_sizes();
     varints();
-    short_scratch();
-    one_too_many();
 }
 
 // 129 zeros, then 1000: a block of 128 deltas 0, and one of a single delta, both of width 0.
@@ -36,6 +27,7 @@ fn rising_at_the_end() {
     column[KEYS - 1] = 1000;
     writes(&column, b"\x07\x01\x82\x01\x00\x80\x01\x00\x00\xd0\x0f\x00");
     reads(b"\x07\x01\x82\x01\x00\x80\x01\x00\x00\xd0\x0f\x00", &column);
+    estimated(&column);
 }
 
 fn writes(column: &[i64], chunk: &[u8; 12]) {
@@ -57,6 +49,17 @@ fn reads(chunk: &[u8], column: &[i64]) {
         answer,
         answer_is(answer, 0, 0, KEYS as u64) & buffers::same_keys(&back, column, KEYS),
     );
+}
+
+// The estimate packs all deltas at the width of the widest.
+fn estimated(column: &[i64]) {
+    let mut scratch = [0i64; KEYS];
+    let found = plan::estimate_sizes(column, &mut scratch);
+    let estimates = found.estimates;
+    let length = estimates.lengths[6];
+    text::word(b"its estimate: ");
+    text::decimal(length as u64);
+    verdict(length == 175);
 }
 
 // BitPacked chunks of width 0, whose body is empty. The column of the first is too short for its values, which is the last question.
@@ -97,51 +100,6 @@ fn varints() {
     );
 }
 
-// A scratch of one place too few is left as it was.
-fn short_scratch() {
-    let mut scratch = [OLD_KEY; 2];
-    let mut out = [0u8; 16];
-    let answer = integer::encode_integers(&[3, 1, 2], DICTIONARY, &mut scratch, &mut out);
-    entry(
-        b"three keys as a Dictionary chunk, into a scratch of two places: ",
-        answer,
-        answer_is(answer, SCRATCH_TOO_SHORT as u64, 0, 0) & buffers::keys_are_old(&scratch, 0),
-    );
-}
-
-// Of the keys 16,384 to 0, falling, the first 16,384 met are 16,384 to 1: the scratch has them rising, and then what it held.
-fn one_too_many() {
-    let column = falling();
-    let mut scratch = buffers::old_keys();
-    let mut out = [0u8; 16];
-    let answer = integer::encode_integers(&column, DICTIONARY, &mut scratch, &mut out);
-    entry(
-        b"16,385 falling keys as a Dictionary chunk, and the scratch then: ",
-        answer,
-        answer_is(answer, TOO_MANY_DISTINCT as u64, 0, 0)
-            & counts_from_one(&scratch, MAX_DICTIONARY_CARDINALITY)
-            & buffers::keys_are_old(&scratch, MAX_DICTIONARY_CARDINALITY),
-    );
-}
-
-fn falling() -> [i64; ONE_TOO_MANY] {
-    let mut keys = [0i64; ONE_TOO_MANY];
-    for i in 0..ONE_TOO_MANY {
-        keys[i] = number::of_bits((MAX_DICTIONARY_CARDINALITY - i) as u64);
-    }
-    keys
-}
-
-// Are the first n keys 1 to n?
-fn counts_from_one(keys: &[i64], n: usize) -> bool {
-    for i in 0..n {
-        if number::bits_of(buffers::key_at(keys, i)) != i as u64 + 1 {
-            return false;
-        }
-    }
-    true
-}
-
 // Reads a chunk into one place: it must be accepted with the value 0, where the number is 0, or refused with this number and offset.
 fn into_one_place(what: &[u8], chunk: &[u8], number: u32, offset: u64) {
     let mut column = [OLD_KEY; 1];
@@ -158,13 +116,13 @@ fn value_after(number: u32) -> i64 {
     if number == 0 { 0 } else { OLD_KEY }
 }
 
-fn entry(what: &[u8], answer: Answer, is_right: bool) {
+pub(crate) fn entry(what: &[u8], answer: Answer, is_right: bool) {
     text::word(what);
     text::answer(answer);
     verdict(is_right);
 }
 
-fn verdict(is_right: bool) {
+pub(crate) fn verdict(is_right: bool) {
     if is_right {
         text::line(b", ok");
     } else {

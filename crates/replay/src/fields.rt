@@ -83,3 +83,11 @@ pub(crate) fn answer_is(answer: Answer, number: u64, offset: u64, count: u64) ->
             & (place as u64 == offset),
     }
 }
+
+// Has the number these 64 bits? What is not a number, and so not equal to itself, has none that could be asked.
+pub(crate) fn has_bits(x: f64, bits: u64) -> bool {
+    if x == x {
+        return f64::to_bits(x) == bits;
+    }
+    false
+}

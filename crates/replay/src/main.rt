@@ -1,19 +1,23 @@
 // Replays the stored answers of the original Rust (docs/ORACLE.md): asks the port each question that the files in data/ hold and
-// compares; then runs document 01's entries on chunks that are not proved. Prints how many answers hold, of each kind, which `rt`
+// compares; then runs document 01's entries that are not proved, and calls that it refuses. Prints how many answers hold, of each kind, which `rt`
 // holds to the file stdout, and the place of each that does not. Questions are joined by `&`, which asks them all: it has no branches,
 // so it is proved sooner.
 ghost use Rattle.io.specs.Counts.{Counts};
 
+mod analysed;
 mod buffers;
 mod chunks;
 mod columns;
 mod entries;
 mod fields;
+mod gains;
 mod keys;
 mod leaves;
 mod made;
 mod packing;
+mod planned;
 mod records;
+mod refused;
 mod text;
 mod written;
 
@@ -24,6 +28,8 @@ fn main() {
     replay(b"columns.bin", File::Columns);
     replay(b"chunks.bin", File::Chunks);
     entries::run();
+    gains::run();
+    refused::run();
 }
 
 fn replay(path: &[u8], which: File) {

@@ -1,5 +1,6 @@
 //! Times our proved code against the original Rust, both in one run on the same inputs. See docs/BENCHMARKS.md.
 
+mod analysis;
 mod codecs;
 mod inputs;
 mod options;
@@ -22,6 +23,9 @@ fn pass(options: &Options) -> Vec<Row> {
     let mut rows = if options.leaves { leaves(options) } else { Vec::new() };
     if options.codecs {
         rows.extend(shapes::SHAPES.iter().flat_map(|shape| codecs::rows(shape, options)));
+    }
+    if options.analysis {
+        rows.extend(shapes::SHAPES.iter().chain(&shapes::HARD).flat_map(|shape| analysis::rows(shape, options)));
     }
     rows
 }
@@ -57,7 +61,7 @@ fn main() {
         options.rounds,
         packing::allocation(&options)
     );
-    for operation in ["encode", "decode"] {
+    for operation in ["encode", "decode", "analyze"] {
         if let Some(mean) = table::mean(&rows, operation) {
             println!("{operation}: {mean:.2} times as fast, as the geometric mean of its rows.");
         }

@@ -9,6 +9,14 @@ pub struct Answer {
     pub count: usize,
 }
 
+#[repr(C)]
+pub struct Plan {
+    pub answer: Answer,
+    pub encoding: u32,
+    pub estimated_bytes: usize,
+    pub plain_bytes: usize,
+}
+
 /// The answer that stands for this count of values or bytes stored.
 pub fn accepted(count: usize) -> Answer {
     Answer { number: 0, offset: 0, count }
@@ -40,6 +48,7 @@ extern "C" {
         out: *mut u8,
         out_len: usize,
     ) -> Answer;
+    fn bench_analyze(column: *const i64, column_len: usize, level: u32, scratch: *mut i64, scratch_len: usize) -> Plan;
     fn bench_decode(chunk: *const u8, chunk_len: usize, strict: bool, column: *mut i64, column_len: usize) -> Answer;
 }
 
@@ -75,4 +84,8 @@ pub fn encode(column: &[i64], number: u32, scratch: &mut [i64], out: &mut [u8]) 
 
 pub fn decode(chunk: &[u8], strict: bool, column: &mut [i64]) -> Answer {
     unsafe { bench_decode(chunk.as_ptr(), chunk.len(), strict, column.as_mut_ptr(), column.len()) }
+}
+
+pub fn analyze(column: &[i64], level: u32, scratch: &mut [i64]) -> Plan {
+    unsafe { bench_analyze(column.as_ptr(), column.len(), level, scratch.as_mut_ptr(), scratch.len()) }
 }

@@ -17,6 +17,14 @@ pub const SHAPES: [Shape; 7] = [
     Shape { name: "mostly small", make: mostly_small },
 ];
 
+/// Shapes that are hard to collect the distinct values of: our table of the keys met has a slot for each (`slot_of` of the crate
+/// distinct), and here all keys have one slot, or they come in an order in which each goes before those that are held.
+pub const HARD: [Shape; 3] = [
+    Shape { name: "16,000 distinct, one slot", make: one_slot },
+    Shape { name: "20,000 distinct, one slot", make: one_slot_too_many },
+    Shape { name: "20,000 distinct, falling", make: falling },
+];
+
 impl Shape {
     pub fn column(&self, count: usize) -> Vec<i64> {
         (self.make)(&mut Random::new(), count)
@@ -66,4 +74,17 @@ fn timestamps(random: &mut Random, count: usize) -> Vec<i64> {
 /// From -50 to 49, but one of 20 below 2^40.
 fn mostly_small(random: &mut Random, count: usize) -> Vec<i64> {
     (0..count).map(|_| if random.below(20) == 0 { random.of_width(40) as i64 } else { random.below(100) - 50 }).collect()
+}
+
+/// Each key has the same bits in both halves, so that folding them gives 0.
+fn one_slot(random: &mut Random, count: usize) -> Vec<i64> {
+    (0..count).map(|_| 0x1_0000_0001 * random.below(16_000)).collect()
+}
+
+fn one_slot_too_many(random: &mut Random, count: usize) -> Vec<i64> {
+    (0..count).map(|_| 0x1_0000_0001 * random.below(20_000)).collect()
+}
+
+fn falling(_: &mut Random, count: usize) -> Vec<i64> {
+    (0..count).map(|place| 20_000 - (place % 20_000) as i64).collect()
 }

@@ -1,8 +1,8 @@
--- `entries::falling` is safe and ends.
+-- `refused::falling` is safe and ends.
 use Prim.Native.Nat.{_-_}
 use borrow.Author.Needs.{needs}
-use Rattle.replay.proofs.entries.falling.Statement.{statement}
-use Rattle.replay.proofs.entries.falling.Tie as tie
+use Rattle.replay.proofs.refused.falling.Statement.{statement}
+use Rattle.replay.proofs.refused.falling.Tie as tie
 
 abbrev Inv-loop : tie.InvT-loop
 Inv-loop keys₀ i₀ keys i = Unit {0}

@@ -1,8 +1,8 @@
--- `entries::counts_from_one` is safe and ends.
+-- `refused::counts_from_one` is safe and ends.
 use Prim.Native.Nat.{_-_}
 use borrow.Author.Needs.{needs}
-use Rattle.replay.proofs.entries.counts_from_one.Statement.{statement}
-use Rattle.replay.proofs.entries.counts_from_one.Tie as tie
+use Rattle.replay.proofs.refused.counts_from_one.Statement.{statement}
+use Rattle.replay.proofs.refused.counts_from_one.Tie as tie
 
 abbrev Inv-loop : tie.InvT-loop
 Inv-loop keys n i₀ i = Unit {0}
