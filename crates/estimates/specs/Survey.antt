@@ -1,4 +1,4 @@
--- What one pass over a column gives for its plan: the statistics and the estimates.
+-- The statistics and the estimates of a column, by one call: what its plan is made of.
 use Prim.Native.Nat.{ℕ}
 use mathlib.Core.List.{List}
 use lib.IntN.{ℤ}

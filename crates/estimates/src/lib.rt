@@ -1,5 +1,5 @@
 // The seven candidate lengths of a column: the Rust's `estimate_sizes`. They are made of the column's statistics and distinct
-// values, and handed on with the statistics, so that a plan walks the column once.
+// values, and handed on with the statistics, so that a plan analyses the column once.
 ghost use mathlib.Core.Path.{_≡_};
 ghost use Prim.Native.Nat.{_≤_};
 ghost use lib.ListN.{length};
@@ -15,6 +15,7 @@ use format::SizeEstimates;
 
 pub(crate) mod sizes;
 
+// What a call for statistics and one for estimates give, of one analysis: both refuse the same.
 pub struct Surveyed {
     pub answer: Answer,
     pub stats: IntegerStats,

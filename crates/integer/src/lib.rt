@@ -114,8 +114,8 @@ pub fn read_all(column: &[i64])
     }
 }
 
-// Writes a column and reads the bytes that writing stored, named by the same number or not, strictly or not: the keys come
-// back. Where writing refuses, that is the answer, and nothing is read.
+// Writes a column in any encoding and reads the bytes that writing stored, named by the same number or not, strictly or not: the
+// keys come back. Where writing refuses, that is the answer, and nothing is read.
 pub fn encode_then_decode(
     column: &[i64],
     number: u32,

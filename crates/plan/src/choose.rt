@@ -61,7 +61,7 @@ fn encoding_for(reason: PlanReason, candidate: Encoding) -> Encoding
     }
 }
 
-// The plan of a record and of the estimates made of it, with whatever distinct values.
+// The plan of a record and of the estimates made of it, whichever distinct values these were made of.
 pub(crate) fn choose_integer_encoding(
     stats: IntegerStats,
     estimates: SizeEstimates,

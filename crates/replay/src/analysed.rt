@@ -25,7 +25,7 @@ pub(crate) fn holds(r: &[u8], is_stored: bool, column: &[i64], scratch: &mut [i6
     accepted(answer, r)
         & stats_hold(r, found.stats)
         & scratch_holds(r, is_stored, scratch)
-        & part_holds(r, is_stored, column)
+        & part_holds(r, is_stored, column, scratch)
         & sizes_hold(r, column, scratch)
 }
 
@@ -107,10 +107,16 @@ fn scratch_holds(r: &[u8], is_stored: bool, scratch: &[i64]) -> bool {
     keys_hold(scratch, r, is_stored, after(distinct, 4), number)
 }
 
-// Is the part of the scratch that is handed back just the distinct values? Above 16,384 the record has none, and the part is empty.
-fn part_holds(r: &[u8], is_stored: bool, column: &[i64]) -> bool {
+// The part of the scratch that is handed back; the scratch is left as by the call for statistics.
+fn part_holds(r: &[u8], is_stored: bool, column: &[i64], left: &[i64]) -> bool {
     let mut scratch = old_keys();
     let part = stats::distinct_values(column, &mut scratch);
+    let is_right = part_is(r, is_stored, part);
+    is_right & same_keys(&scratch, left, KEYS)
+}
+
+// Is the part just the distinct values? Above 16,384 the record has none, and the part is empty.
+fn part_is(r: &[u8], is_stored: bool, part: &[i64]) -> bool {
     let distinct = chunk_at(r, is_stored, 8);
     let number = u32_at(r, distinct) as usize;
     (part.len() == number) & keys_hold(part, r, is_stored, after(distinct, 4), number)

@@ -3,6 +3,7 @@
 // small, so Varint is the best: 999 bytes and those of the last key's varint, 8 or 9.
 use crate::entries::verdict;
 use crate::text;
+use format::PlanReason;
 
 const KEYS: usize = 132;
 
@@ -32,6 +33,7 @@ fn planned(what: &[u8], last: i64, best: usize, id: u32, bytes: usize) {
     let found = plan::analyze(&column, LEVEL, &mut scratch);
     let plan = found.plan;
     let encoding = plan.encoding;
+    let reason = plan.reason;
     let estimates = plan.estimates;
     text::word(what);
     text::decimal(plan.estimated_bytes as u64);
@@ -39,8 +41,17 @@ fn planned(what: &[u8], last: i64, best: usize, id: u32, bytes: usize) {
         (plan.plain_bytes == 1060)
             & (estimates.lengths[1] == best)
             & (codec::encoding_id(encoding) == id)
+            & (gains_too_little(reason) == (id == 1))
             & (plan.estimated_bytes == bytes),
     );
+}
+
+fn gains_too_little(reason: PlanReason) -> bool {
+    if let PlanReason::GainBelowThreshold = reason {
+        true
+    } else {
+        false
+    }
 }
 
 fn column_with(last: i64) -> [i64; KEYS] {

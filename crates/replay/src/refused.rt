@@ -15,6 +15,7 @@ const ONE_TOO_MANY: usize = 16385;
 pub(crate) fn run() {
     short_scratch();
     one_too_many();
+    too_many_kept();
     no_statistics();
     level_10();
 }
@@ -41,6 +42,21 @@ fn one_too_many() {
         b"16,385 falling keys as a Dictionary chunk, and the scratch then: ",
         answer,
         answer_is(answer, TOO_MANY_DISTINCT as u64, 0, 0)
+            & counts_from_one(&scratch, MAX_DICTIONARY_CARDINALITY)
+            & buffers::keys_are_old(&scratch, MAX_DICTIONARY_CARDINALITY),
+    );
+}
+
+// Statistics of these keys are not refused, and leave the scratch the same.
+fn too_many_kept() {
+    let column = falling();
+    let mut scratch = buffers::old_keys();
+    let found = stats::analyze_integers(&column, &mut scratch);
+    let answer = found.answer;
+    entry(
+        b"their statistics, and the scratch then: ",
+        answer,
+        answer_is(answer, 0, 0, MAX_DICTIONARY_CARDINALITY as u64)
             & counts_from_one(&scratch, MAX_DICTIONARY_CARDINALITY)
             & buffers::keys_are_old(&scratch, MAX_DICTIONARY_CARDINALITY),
     );

@@ -38,9 +38,9 @@ claimed {level} {column} {scratch} {output} {buffer} keys ends lent =
     let whole = fits column (length buffer) (lent .buffer-room) in
     record {
       planned = rw (ends .trip-is) (demand .planned);
-      written = rw (ends .trip-is, passed, chunk);
+      written = rw (ends .trip-is, demand .planned, passed, chunk);
       read = rw (ends .trip-is, passed, chunk, whole);
-      chunk = rw (ends .output-is, passed, chunk) (take-stored (plannedChunk level column) output);
+      chunk = rw (ends .trip-is, demand .planned, ends .output-is, passed, chunk) (take-stored (plannedChunk level column) output);
       back = rw (ends .buffer-is, passed, chunk, whole) (take-stored column buffer);
       demand = rw (ends .trip-is, demand .planned) demand;
     }

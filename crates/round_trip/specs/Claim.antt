@@ -7,10 +7,10 @@ use lib.IntN.{ℤ}
 use lib.ListN.{length, take}
 use Rattle.format.specs.Encodings.{maxChunkElements}
 use Rattle.format.specs.Distinct.{cappedDistinct, scratchNeeded}
+use Rattle.format.specs.Chunk.{chunkOf}
 use Rattle.format.specs.Plan.{planOf, planScratch}
 use Rattle.format.specs.ThirdDemand.{RoundTrip}
 use Rattle.format.specs.declared.Answer.the-variants.{Accepted}
-use Rattle.round_trip.specs.Trip.{plannedChunk}
 use Rattle.round_trip.specs.declared.Step.the-variants.{Accepted as StepAccepted}
 use Rattle.round_trip.specs.declared.Trip.{Trip}
 
@@ -29,10 +29,10 @@ pub record Claim
     (trip : Trip) (output-after : List ℕ) (buffer-after : List ℤ) : Type 0 where
   -- "None of this is refused"
   pub planned : trip .planned ≡ record { answer = Accepted (length (cappedDistinct column)); plan = planOf level column }
-  pub written : trip .written ≡ StepAccepted (length (plannedChunk level column))
+  pub written : trip .written ≡ StepAccepted (length (chunkOf (trip .planned .plan .encoding) column))
   pub read : trip .read ≡ StepAccepted (length column)
   -- what was written is the column's chunk, "and reading gives back exactly its keys in order"
-  pub chunk : take (length (plannedChunk level column)) output-after ≡ plannedChunk level column
+  pub chunk : take (length (chunkOf (trip .planned .plan .encoding) column)) output-after ≡ chunkOf (trip .planned .plan .encoding) column
   pub back : take (length column) buffer-after ≡ column
   -- and all that the demand says of a plan and of the lengths holds of the plan that was made
   pub demand : RoundTrip column level scratch (trip .planned .plan) (planScratch level column scratch) output buffer

@@ -46,8 +46,9 @@ fn ended(planned: PlanAnswer, written: Step) -> Trip
 }
 
 // Plans a column at a level, writes it in the encoding planned, and reads the bytes that writing stored, named by that encoding or
-// not, strictly or not. The scratch that planning left is lent on to writing. Whatever the arguments, the contract says what each
-// step answers and what the buffers hold; and that the third demand holds where what it names is lent.
+// not, strictly or not: what comes back is the same in all four. The scratch that planning left is lent on to writing. Whatever the
+// arguments, the contract says what each step answers and what the buffers hold; and that the third demand holds where what it
+// names is lent.
 pub fn round_trip(
     column: &[i64],
     level: u32,

@@ -15,7 +15,7 @@ use Rattle.format.specs.Folds.{leastFrom, least, greatestFrom, greatest, larges
 use Rattle.format.specs.Runs.{runsFrom, runs}
 use Rattle.format.specs.Statistics.{nonDecreasing, nonIncreasing, runLen}
 use Rattle.format.proofs.numbers.Order.{eqZ-true}
-use Rattle.stats.specs.Pass.{firstValues, nextValues, nextRuns, firstDelta, firstSteps, nextSteps, rises, falls, passOf}
+use Rattle.stats.specs.Pass.{firstValues, nextValues, nextRuns, firstDelta, firstSteps, nextSteps, neverFalls, neverRises, passOf}
 use Rattle.stats.specs.declared.pass.Values.{Values}
 use Rattle.stats.specs.declared.pass.Runs.{Runs}
 use Rattle.stats.specs.declared.pass.Steps.{Steps}
@@ -73,8 +73,8 @@ module _ {column : List ℤ} {last : ℤ} {r : Runs} where
 -- ---- steps
 
 pub record StepsTo (column : List ℤ) (last : ℤ) (rest : List ℤ) (s : Steps) : Type 0 where
-  pub rising : (s .rising && nonDecreasing last rest) ≡ rises column
-  pub falling : (s .falling && nonIncreasing last rest) ≡ falls column
+  pub ascending : (s .ascending && nonDecreasing last rest) ≡ neverFalls column
+  pub descending : (s .descending && nonIncreasing last rest) ≡ neverRises column
   pub low : leastFrom (s .low) (deltasFrom last rest) ≡ least (deltas column)
   pub high : greatestFrom (s .high) (deltasFrom last rest) ≡ greatest (deltas column)
 
@@ -98,13 +98,13 @@ delta-first (v ∷ w ∷ ws) h = refl
 
 -- it may be taken twice
 pub steps-first : (v : ℤ) (vs : List ℤ) → StepsTo (v ∷ vs) v vs (firstSteps (firstDelta (v ∷ vs)))
-unfolding rises falls firstDelta deltas deltasFrom leastFrom least greatestFrom greatest lesser greater
-steps-first v [] = record { rising = refl; falling = refl; low = refl; high = refl }
+unfolding neverFalls neverRises firstDelta deltas deltasFrom leastFrom least greatestFrom greatest lesser greater
+steps-first v [] = record { ascending = refl; descending = refl; low = refl; high = refl }
 steps-first v (w ∷ ws) =
     let d = delta v w in
     record {
-      rising = refl;
-      falling = refl;
+      ascending = refl;
+      descending = refl;
       low = ap (λ (m : ℤ). leastFrom m (deltasFrom w ws)) (either (ltZ d d) d);
       high = ap (λ (m : ℤ). greatestFrom m (deltasFrom w ws)) (either (ltZ d d) d);
     }
@@ -114,12 +114,12 @@ module _ {column : List ℤ} {last : ℤ} {s : Steps} where
   unfolding nonDecreasing nonIncreasing deltasFrom leastFrom greatestFrom
   steps-next {v} {vs} k =
       record {
-        rising = and-assoc (s .rising) (leZ last v) (nonDecreasing v vs) ∙ k .rising;
-        falling = and-assoc (s .falling) (leZ v last) (nonIncreasing v vs) ∙ k .falling;
+        ascending = and-assoc (s .ascending) (leZ last v) (nonDecreasing v vs) ∙ k .ascending;
+        descending = and-assoc (s .descending) (leZ v last) (nonIncreasing v vs) ∙ k .descending;
         low = k .low;
         high = k .high;
       }
 
   pub steps-done : StepsTo column last [] s → s ≡ passOf column .steps
   unfolding nonDecreasing nonIncreasing deltasFrom leastFrom greatestFrom passOf
-  steps-done k = rw (← k .low, ← k .high, ← k .rising, ← k .falling, and-true (s .rising), and-true (s .falling))
+  steps-done k = rw (← k .low, ← k .high, ← k .ascending, ← k .descending, and-true (s .ascending), and-true (s .descending))

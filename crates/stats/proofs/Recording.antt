@@ -13,7 +13,7 @@ use Rattle.format.specs.Distinct.{distinctFrom, distinct, tooManyDistinct}
 use Rattle.format.specs.Statistics.{sortednessFrom, sortednessOf, cardinalityOf, statsOf, refusedStats}
 use Rattle.format.specs.declared.Cardinality.{Cardinality}
 use Rattle.format.specs.declared.Sortedness.{Sortedness}
-use Rattle.stats.specs.Pass.{rises, falls, passOf}
+use Rattle.stats.specs.Pass.{neverFalls, neverRises, passOf}
 use Rattle.stats.specs.declared.pass.Pass.{Pass}
 
 -- the empty column
@@ -24,7 +24,7 @@ stats-none (v ∷ vs) e = absurd (omega arith)
 
 -- any other
 pub stats-made : (column : List ℤ) (p : Pass) {cardinality : Cardinality} {sortedness : Sortedness} {span delta-span : ℕ} → (length column ≡ 0 → ⊥)
-    → p ≡ passOf column → cardinality ≡ cardinalityOf column → sortedness ≡ sortednessFrom (p .steps .rising) (p .steps .falling)
+    → p ≡ passOf column → cardinality ≡ cardinalityOf column → sortedness ≡ sortednessFrom (p .steps .ascending) (p .steps .descending)
     → span ≡ gap (p .values .low) (p .values .high) → delta-span ≡ gap (p .steps .low) (p .steps .high)
     → record {
       count = length column;
@@ -43,6 +43,6 @@ pub stats-made : (column : List ℤ) (p : Pass) {cardinality : Cardinality} {sor
       «delta_span» = delta-span;
     }
     ≡ statsOf column
-unfolding statsOf sortednessOf passOf rises falls
+unfolding statsOf sortednessOf passOf neverFalls neverRises
 stats-made [] p some e c o s d = absurd (some refl)
 stats-made (v ∷ vs) p some e c o s d = rw (o, s, d, c, e)

@@ -36,24 +36,24 @@ firstDelta column = getD (deltas column) 0 (pos 0)
 
 -- before the first step, whose delta is d
 abbrev pub firstSteps : ℤ → Steps
-firstSteps d = record { rising = true; falling = true; low = d; high = d }
+firstSteps d = record { ascending = true; descending = true; low = d; high = d }
 
 -- a step more, from a value `last` to v
 abbrev pub nextSteps : Steps → ℤ → ℤ → Steps
 nextSteps s last v =
     record {
-      rising = s .rising && leZ last v;
-      falling = s .falling && leZ v last;
+      ascending = s .ascending && leZ last v;
+      descending = s .descending && leZ v last;
       low = lesser (s .low) (delta last v);
       high = greater (s .high) (delta last v);
     }
 
 -- no value is less than the one before it; and none is greater
-unfoldable pub rises : List ℤ → Bool
-rises column = nonDecreasing (getD column 0 (pos 0)) (drop 1 column)
+unfoldable pub neverFalls : List ℤ → Bool
+neverFalls column = nonDecreasing (getD column 0 (pos 0)) (drop 1 column)
 
-unfoldable pub falls : List ℤ → Bool
-falls column = nonIncreasing (getD column 0 (pos 0)) (drop 1 column)
+unfoldable pub neverRises : List ℤ → Bool
+neverRises column = nonIncreasing (getD column 0 (pos 0)) (drop 1 column)
 
 -- WHAT THE PASS GIVES
 unfoldable pub passOf : List ℤ → Pass
@@ -62,5 +62,5 @@ passOf column =
       values = record { low = least column; high = greatest column; largest = largest (map zigzag column); bytes = total (map varintLen column) };
       «run_count» = length (runs column);
       «run_bytes» = total (map runLen (runs column));
-      steps = record { rising = rises column; falling = falls column; low = least (deltas column); high = greatest (deltas column) };
+      steps = record { ascending = neverFalls column; descending = neverRises column; low = least (deltas column); high = greatest (deltas column) };
     }

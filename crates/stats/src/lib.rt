@@ -1,5 +1,6 @@
-// Statistics of a column: the Rust's `analyze_integers`. The record is made in one pass; the distinct values, which the Rust
-// keeps in a `HashSet`, are collected in the scratch.
+// Statistics of a column: the Rust's `analyze_integers`. The record is made in one pass, but for the cardinality: the distinct
+// values, which the Rust keeps in a `HashSet`, are collected in the scratch by a pass of their own.
+ghost use denote.Ref.{ptr};
 ghost use mathlib.Core.Path.{_≡_};
 ghost use lib.ListN.{length};
 ghost use Rattle.format.specs.Statistics.{statsAnswer, analysisScratch, distinctValuesPart};
@@ -40,10 +41,12 @@ pub fn analyze_integers(column: &[i64], scratch: &mut [i64]) -> StatsAnswer
     }
 }
 
-// The distinct values of a column, rising: a part of the scratch, in which they are collected. It is empty where there are more
-// than 16,384, and where a call for statistics is refused.
+// The distinct values of a column, rising: the front part of the scratch, in which they are collected. It is empty where there are
+// more than 16,384, and where a call for statistics is refused. What the scratch holds behind the part no contract can say, since
+// the scratch is lent on with it; `analyze_integers` says it of the same column.
 pub fn distinct_values<'a>(column: &[i64], scratch: &'a mut [i64]) -> &'a mut [i64]
     ensures { λ r. ⌜ now r ≡ distinctValuesPart (now (column .entry)) (length (now (scratch .entry))) ⌝ }
+    ensures { λ r. ⌜ ptr r ≡ ptr (scratch .entry) ⌝ }
 {
     let collected = distinct::collect(column, scratch);
     match collected {

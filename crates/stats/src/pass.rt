@@ -25,8 +25,8 @@ pub(crate) struct Runs {
 
 // Whether no step so far went down, and none up; and the least and the greatest delta.
 pub(crate) struct Steps {
-    pub rising: bool,
-    pub falling: bool,
+    pub ascending: bool,
+    pub descending: bool,
     pub low: i64,
     pub high: i64,
 }
@@ -112,8 +112,8 @@ fn first_steps(delta: i64) -> Steps
     ensures { λ r. ⌜ r ≡ firstSteps delta ⌝ }
 {
     Steps {
-        rising: true,
-        falling: true,
+        ascending: true,
+        descending: true,
         low: delta,
         high: delta,
     }
@@ -125,8 +125,8 @@ fn next_steps(s: Steps, last: i64, value: i64) -> Steps
 {
     let delta = number::wrapping_sub(value, last);
     Steps {
-        rising: s.rising & (last <= value),
-        falling: s.falling & (value <= last),
+        ascending: s.ascending & (last <= value),
+        descending: s.descending & (value <= last),
         low: lesser(s.low, delta),
         high: greater(s.high, delta),
     }

@@ -33,17 +33,17 @@ pub(crate) fn refused_stats() -> IntegerStats
 }
 
 // By whether the values never fall, and whether they never rise.
-fn sortedness_of(rising: bool, falling: bool) -> Sortedness
-    ensures { λ r. ⌜ r ≡ sortednessFrom rising falling ⌝ }
+fn sortedness_of(ascending: bool, descending: bool) -> Sortedness
+    ensures { λ r. ⌜ r ≡ sortednessFrom ascending descending ⌝ }
 {
-    if rising {
-        if falling {
+    if ascending {
+        if descending {
             Sortedness::Constant
         } else {
             Sortedness::Ascending
         }
     } else {
-        if falling {
+        if descending {
             Sortedness::Descending
         } else {
             Sortedness::Unsorted
@@ -68,7 +68,7 @@ pub(crate) fn stats_of(column: &[i64], cardinality: Cardinality) -> IntegerStats
         min: values.low,
         max: values.high,
         run_count: pass.run_count,
-        sortedness: sortedness_of(steps.rising, steps.falling),
+        sortedness: sortedness_of(steps.ascending, steps.descending),
         cardinality,
         value_span: gap(values.low, values.high),
         max_zigzag: values.largest,

@@ -1,4 +1,4 @@
--- Within the limits, the sum of the parts: entries of ten bytes at most, and codes of at most 64 bits, do not overflow.
+-- `body_len` meets its contract: within the limits, the sum of the parts. Entries of ten bytes at most, and codes of at most 64 bits, do not overflow.
 use mathlib.Core.Path.{sym}
 use Prim.Native.Nat.{_+_, _*_, _≤_}
 use native.Mathlib.Nat.{mul-le-mul}

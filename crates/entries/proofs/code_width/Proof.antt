@@ -1,4 +1,4 @@
--- No entries have the width of 0, which is 0, and else it is asked of the entries less one.
+-- `code_width` meets its contract: no entries have the width of 0, which is 0, and else it is asked of the entries less one.
 use lib.Count.{leadingZeros}
 use borrow.Author.Needs.{needs}
 use Rattle.format.specs.Width.{width}

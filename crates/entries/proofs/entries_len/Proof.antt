@@ -1,4 +1,4 @@
--- Each turn measures the gap to the next entry (`Measuring`); at most 16,384 entries of ten bytes do not overflow.
+-- `entries_len` meets its contract: each turn measures the gap to the next entry (`Measuring`); at most 16,384 entries of ten bytes do not overflow.
 use Prim.Native.Nat.{_-_}
 use native.Mathlib.Omega.{arith}
 use lib.ListN.{length}

@@ -1,4 +1,4 @@
--- The reading is named or not.
+-- `decode_either` meets its contract: the reading is named or not.
 use borrow.Author.Needs.{needs}
 use Rattle.integer.proofs.decode_either.Statement.{statement}
 use Rattle.integer.proofs.decode_either.Tie as tie

@@ -1,4 +1,4 @@
--- Each turn reads one more value, which is a key.
+-- `read_all` meets its contract: each turn reads one more value, which is a key.
 use Prim.Native.Nat.{ℕ, _-_, _^_, _<_}
 use native.Mathlib.Omega.{arith}
 use lib.IntN.{pos}

@@ -1,4 +1,4 @@
--- A trip ends in one of three ways (Ends), and whichever it is, the third demand holds of it (Claims).
+-- `round_trip` meets its contract: a trip ends in one of three ways (Ends), and whichever it is, the third demand holds of it (Claims).
 use mathlib.Core.Path.{sym}
 use native.Mathlib.Omega.{arith}
 use lib.Seq.{length-take-le}

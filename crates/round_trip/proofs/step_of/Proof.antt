@@ -1,4 +1,4 @@
--- The answer is taken apart, case by case.
+-- `step_of` meets its contract: the answer is taken apart, case by case.
 use mathlib.Core.Path.{sym, ap}
 use borrow.Author.Needs.{needs}
 use Rattle.round_trip.specs.Trip.{stepOf}

@@ -1,4 +1,4 @@
--- The place is one of seven.
+-- `available_in` meets its contract: an encoding's place is one of the seven.
 use borrow.Author.Needs.{needs}
 use Rattle.format.specs.Estimates.{availableIn}
 use Rattle.plan.proofs.Choosing.{place-below}

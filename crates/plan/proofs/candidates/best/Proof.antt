@@ -1,4 +1,4 @@
--- The invariant: the best of the candidates so far, with those that are left, gives the best of all.
+-- `best` meets its contract: at every turn the best of the candidates so far, with those that are left, gives the best of all.
 use Prim.Native.Nat.{_-_}
 use native.Mathlib.Omega.{arith}
 use borrow.Author.Needs.{needs}

@@ -1,4 +1,4 @@
--- What the calls answer, put into the definition.
+-- `better` meets its contract: what the calls answer, put into the definition.
 use borrow.Author.Needs.{needs}
 use borrow.Author.Tests.{not-true, not-false}
 use Rattle.format.specs.Plan.{better}

@@ -1,4 +1,4 @@
--- One test.
+-- `better_of` meets its contract: the test decides between the two.
 use borrow.Author.Needs.{needs}
 use Rattle.plan.proofs.candidates.better_of.Statement.{statement}
 use Rattle.plan.proofs.candidates.better_of.Tie as tie

@@ -1,4 +1,4 @@
--- The place is one of seven.
+-- `length_in` meets its contract: an encoding's place is one of the seven.
 use native.Mathlib.Omega.{arith}
 use borrow.Author.Needs.{needs}
 use Rattle.format.specs.Estimates.{lengthIn}

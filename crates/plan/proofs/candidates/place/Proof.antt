@@ -1,4 +1,4 @@
--- An id is at least 1.
+-- `place` meets its contract: an id is at least 1, so one may be taken off.
 use native.Mathlib.Omega.{arith}
 use borrow.Author.Needs.{needs}
 use Rattle.format.proofs.codecs.Encodings.{idOf-low}

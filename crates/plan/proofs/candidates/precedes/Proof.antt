@@ -1,4 +1,4 @@
--- Two tests.
+-- `precedes` meets its contract: the lengths decide, and the ranks where they are equal.
 use borrow.Author.Tests.{lt-ltb, le-ltb, eq-eqb, ne-eqb}
 use Rattle.plan.proofs.candidates.precedes.Statement.{statement}
 use Rattle.plan.proofs.candidates.precedes.Tie as tie

@@ -1,4 +1,4 @@
--- Each field is what a call answers; the estimates stand for those of the definition.
+-- `choose_integer_encoding` meets its contract: each field is what a call answers; the estimates stand for those of the definition.
 use borrow.Author.Needs.{needs}
 use Rattle.format.specs.Plan.{planFrom}
 use Rattle.plan.proofs.choose.choose_integer_encoding.Statement.{statement}

@@ -1,4 +1,4 @@
--- Plain is the encoding with id 1.
+-- `gains_too_little` meets its contract: Plain is the encoding with id 1, and for any other the test of gain decides.
 use borrow.Author.Needs.{needs}
 use mathlib.Core.Path.{sym, _∙_}
 use borrow.Author.Tests.{eq-eqb, ne-eqb}

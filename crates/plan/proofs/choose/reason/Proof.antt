@@ -1,4 +1,4 @@
--- Three tests, in the order of the definition.
+-- `reason` meets its contract: three tests, in the order of the definition.
 use borrow.Author.Needs.{needs}
 use borrow.Author.Tests.{eq-eqb, ne-eqb}
 use Rattle.format.specs.Plan.{reasonOf}

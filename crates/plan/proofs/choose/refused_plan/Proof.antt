@@ -1,4 +1,4 @@
--- All fields compute.
+-- `refused_plan` meets its contract: both records compute to the same.
 use Rattle.format.specs.Estimates.{refusedEstimates}
 use Rattle.format.specs.Plan.{refusedPlan}
 use Rattle.plan.proofs.Literals.{zero}

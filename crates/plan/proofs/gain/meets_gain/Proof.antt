@@ -1,4 +1,4 @@
--- At level 1 and above the gain is that of the definition.
+-- `meets_gain` meets its contract: at level 1 and above the gain is that of the definition.
 use native.Mathlib.Omega.{arith}
 use borrow.Author.Needs.{needs}
 use borrow.Author.Tests.{ne-eqb}

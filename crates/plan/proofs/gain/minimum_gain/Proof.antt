@@ -1,4 +1,4 @@
--- The level is 0, below 4, below 7 or above; the literals are the gains of the definition.
+-- `minimum_gain` meets its contract: the level is 0, below 4, below 7 or above; the literals are the gains of the definition.
 use native.Mathlib.Omega.{arith}
 use borrow.Author.Tests.{ne-eqb, le-leb, lt-leb}
 use Rattle.format.specs.Plan.{minimumGain}

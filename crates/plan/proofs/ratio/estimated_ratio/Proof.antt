@@ -1,4 +1,4 @@
--- The quotient that is 1.0 for no bytes.
+-- `estimated_ratio` meets its contract: the quotient that is 1.0 for no bytes.
 use borrow.Author.Needs.{needs}
 use Rattle.format.specs.Plan.{estimatedRatio}
 use Rattle.plan.proofs.Literals.{one}

@@ -1,4 +1,4 @@
--- One test.
+-- `quotient` meets its contract: the test of the divisor decides.
 use borrow.Author.Needs.{needs}
 use borrow.Author.Tests.{eq-eqb, ne-eqb}
 use Rattle.plan.proofs.ratio.quotient.Statement.{statement}

@@ -1,4 +1,4 @@
--- The quotient that is 0.0 for no values.
+-- `run_density` meets its contract: the quotient that is 0.0 for no values.
 use borrow.Author.Needs.{needs}
 use Rattle.format.specs.Plan.{runDensity}
 use Rattle.plan.proofs.Literals.{zero}
