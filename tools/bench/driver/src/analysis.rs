@@ -9,10 +9,10 @@ use basalt_common::CompressionLevel;
 use basalt_encoding::analyze;
 use std::hint::black_box;
 
-/// The sizes of columns beside the one that is asked for: a few keys, and as many as a page of a book, or a small table, has.
+/// The sizes of columns beside the one that is asked for.
 const SIZES: [usize; 4] = [1, 16, 256, 20_000];
 
-/// In a round a column is planned so often that some so many keys are seen: a clock cannot time a few.
+/// In a round a shorter column is planned again and again, until so many keys are seen: a clock cannot time a few.
 const KEYS_A_ROUND: usize = 10_000;
 
 const LEVEL: u8 = 6;
@@ -30,6 +30,7 @@ pub fn rows(shape: &Shape, options: &Options) -> Vec<Row> {
     sizes.into_iter().map(|size| row(shape, size, options.rounds)).collect()
 }
 
+/// The original makes its set of distinct values in each call and frees it: both are part of its time. Ours is lent a scratch.
 fn row(shape: &Shape, size: usize, rounds: usize) -> Row {
     let column = shape.column(size);
     let level = CompressionLevel::new(LEVEL).unwrap();

@@ -56,11 +56,13 @@ fn main() {
     table::print(&rows, options.markdown);
     println!();
     println!(
-        "{} values, best of {PASSES} times {} rounds. Of the Rust's unpack and decode, {:.2} ns a value are for its new Vec.",
-        options.count,
-        options.rounds,
-        packing::allocation(&options)
+        "Best of {PASSES} times {} rounds, of {} values where no other number is given.",
+        options.rounds, options.count
     );
+    if options.leaves || options.codecs {
+        let allocation = packing::allocation(&options);
+        println!("Of the Rust's unpack and decode, {allocation:.2} ns a value are for its new Vec.");
+    }
     for operation in ["encode", "decode", "analyze"] {
         if let Some(mean) = table::mean(&rows, operation) {
             println!("{operation}: {mean:.2} times as fast, as the geometric mean of its rows.");
