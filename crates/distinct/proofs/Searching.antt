@@ -1,5 +1,5 @@
--- A search that halves. What is left to be halved finds what the whole search finds (`Halving`, the loop's invariant), in any list. If the values rise, then the key's code lies from
--- `low` to 2^left places on, and to compare the key with the value in the middle leaves one half: so what is found is the code.
+-- A search by quarters. What is left to be searched finds what the whole search finds (`Narrowing`, the loop's invariant), in any list. If the values rise, then the key's code lies
+-- from `low` to 2^left places on, and to compare the key with the three values between the quarters leaves one of them: so what is found is the code.
 use mathlib.Core.Path.{_≡_, refl, sym, ap, _∙_}
 use mathlib.Core.Bool.{Bool, true, false, cond}
 use mathlib.Core.List.{List}
@@ -11,12 +11,13 @@ use lib.Pow.{pow-pos}
 use lib.IntN.{ℤ, pos}
 use lib.Signed.{ltZ}
 use lib.ListN.{length, getD}
+use lib.Dec.{eqb}
 use borrow.Author.Tests.{eq-eqb, ne-eqb}
 use Rattle.format.specs.Dictionary.{codeOf}
 use Rattle.format.specs.Distinct.{Rising}
 use Rattle.format.specs.Width.{width}
 use Rattle.format.proofs.numbers.Widths.{width-lt, width-tight}
-use Rattle.distinct.specs.Search.{upOver, halved, halvings, searched}
+use Rattle.distinct.specs.Search.{upOver, quartered, narrowed, powerIn, searched}
 use Rattle.distinct.proofs.Codes.{code-above, code-below, code-le}
 
 -- 2^k values, doubled
@@ -33,13 +34,13 @@ module _ (count : ℕ) (some : 0 < count) (fits : count < 2 ^ 64) where
       go zero e = absurd (omega (arith, rw e at (width-lt count fits)))
       go (suc w) e = omega arith
 
-  pub width-power : (2 ^ halvings count ≤ count) × (count < 2 * 2 ^ halvings count)
+  pub width-power : (2 ^ powerIn count ≤ count) × (count < 2 * 2 ^ powerIn count)
   width-power =
       let e = pow-half (width count) width-some in
       (omega (arith, width-tight count fits), omega (arith, width-lt count fits))
 
 -- no further up than there is
-up-most : (value key : ℤ) (far : ℕ) → upOver value key far ≤ far
+pub up-most : (value key : ℤ) (far : ℕ) → upOver value key far ≤ far
 up-most value key far = go (ltZ value key)
   where
     go : (t : Bool) → cond t far 0 ≤ far
@@ -47,6 +48,15 @@ up-most value key far = go (ltZ value key)
     go false = omega arith
 
 module _ (values : List ℤ) (key : ℤ) where
+  -- ---- a turn
+
+  -- the three values that are asked, and the steps that they make
+  pub quartered-made : (low : ℕ) {far p a b c : ℕ} {lower middle upper other : ℤ} → other ≡ key → far ≡ p
+      → lower ≡ getD values (low + far) (pos 0) → middle ≡ getD values (low + 2 * far) (pos 0) → upper ≡ getD values (low + 3 * far) (pos 0)
+      → a ≡ upOver lower other p → b ≡ upOver middle other p → c ≡ upOver upper other p → low + a + (b + c) ≡ quartered values key low p
+  unfolding quartered
+  quartered-made low k f l m u ea eb ec = rw (ea, eb, ec, k, l, m, u, f) (omega arith)
+
   -- ---- the loop
 
   -- no values
@@ -56,86 +66,171 @@ module _ (values : List ℤ) (key : ℤ) where
 
   -- some
   searched-some : 0 < length values
-      → halved values key (upOver (getD values (length values - 2 ^ halvings (length values)) (pos 0)) key (length values - 2 ^ halvings (length values))) (halvings (length values))
+      → narrowed values key (upOver (getD values (length values - 2 ^ powerIn (length values)) (pos 0)) key (length values - 2 ^ powerIn (length values))) (powerIn (length values))
       ≡ searched values key
   unfolding searched
   searched-some h = rw (ne-eqb (length values) 0 (λ (e : length values ≡ 0). omega arith))
 
-  pub record Halving (low left : ℕ) : Type 0 where
+  pub record Narrowing (low left : ℕ) : Type 0 where
     pub room : low + 2 ^ left ≤ length values
-    pub finds : halved values key low left ≡ searched values key
+    pub finds : narrowed values key low left ≡ searched values key
 
   -- the first values or the last ones
-  pub halving-first : 0 < length values → 2 ^ halvings (length values) ≤ length values → {left power low : ℕ} {value : ℤ} → left ≡ halvings (length values) → power ≡ 2 ^ left
-      → value ≡ getD values (length values - power) (pos 0) → low ≡ upOver value key (length values - power) → Halving low left
-  halving-first some most {left} {power} {low} {value} w p v l =
-      let far : power ≡ 2 ^ halvings (length values) = p ∙ ap (λ (n : ℕ). 2 ^ n) w in
-      let is : low ≡ upOver (getD values (length values - 2 ^ halvings (length values)) (pos 0)) key (length values - 2 ^ halvings (length values)) =
+  pub narrowing-first : 0 < length values → 2 ^ powerIn (length values) ≤ length values → {left power low : ℕ} {value : ℤ} → left ≡ powerIn (length values) → power ≡ 2 ^ left
+      → value ≡ getD values (length values - power) (pos 0) → low ≡ upOver value key (length values - power) → Narrowing low left
+  narrowing-first some most {left} {power} {low} {value} w p v l =
+      let far : power ≡ 2 ^ powerIn (length values) = p ∙ ap (λ (n : ℕ). 2 ^ n) w in
+      let is : low ≡ upOver (getD values (length values - 2 ^ powerIn (length values)) (pos 0)) key (length values - 2 ^ powerIn (length values)) =
       l ∙ ap (λ (x : ℤ). upOver x key (length values - power)) v ∙ ap (λ (n : ℕ). upOver (getD values (length values - n) (pos 0)) key (length values - n)) far in
       record {
         room = omega (arith, up-most value key (length values - power));
-        finds = ap (halved values key low) w ∙ ap (λ (n : ℕ). halved values key n (halvings (length values))) is ∙ searched-some some;
+        finds = ap (narrowed values key low) w ∙ ap (λ (n : ℕ). narrowed values key n (powerIn (length values))) is ∙ searched-some some;
       }
 
-  module _ {low left : ℕ} (s : Halving low left) where
-    -- the middle value is there
-    pub halving-middle : 0 < left → {power : ℕ} → power ≡ 2 ^ (left - 1) → low + power < length values
-    halving-middle some p = omega (arith, s .room, pow-half left some, pow-pos (left - 1))
+  -- no further than to the last quarter
+  quartered-most : (low far : ℕ) → quartered values key low far ≤ low + 3 * far
+  unfolding quartered
+  quartered-most low far =
+      omega (
+        arith,
+        up-most (getD values (low + far) (pos 0)) key far,
+        up-most (getD values (low + 2 * far) (pos 0)) key far,
+        up-most (getD values (low + 3 * far) (pos 0)) key far,
+      )
 
-    -- the lower or the upper half
-    pub halving-half : 0 < left → {power step : ℕ} {value : ℤ} → power ≡ 2 ^ (left - 1) → value ≡ getD values (low + power) (pos 0) → step ≡ upOver value key (2 ^ (left - 1))
-        → Halving (low + step) (left - 1)
-    unfolding halved
-    halving-half some {power} {step} {value} p v t = go left refl some s
+  module _ {low left : ℕ} (s : Narrowing low left) where
+    -- the quarters are there
+    pub narrowing-quarters : 1 < left → low + 4 * 2 ^ (left - 2) ≤ length values
+    narrowing-quarters two = go left refl two s
       where
-        go : (n : ℕ) → left ≡ n → 0 < n → Halving low n → Halving (low + step) (left - 1)
+        go : (n : ℕ) → left ≡ n → 1 < n → Narrowing low n → low + 4 * 2 ^ (left - 2) ≤ length values
         go zero e h g = absurd (omega arith)
-        go (suc k) e h g =
-            let less : left - 1 ≡ k = omega arith in
-            let far : power ≡ 2 ^ k = p ∙ ap (λ (n : ℕ). 2 ^ n) less in
-            let is : step ≡ upOver (getD values (low + 2 ^ k) (pos 0)) key (2 ^ k) =
-            t ∙ ap (λ (n : ℕ). upOver value key (2 ^ n)) less ∙ ap (λ (x : ℤ). upOver x key (2 ^ k)) (v ∙ ap (λ (n : ℕ). getD values (low + n) (pos 0)) far) in
+        go (suc zero) e h g = absurd (omega arith)
+        go (suc (suc k)) e h g =
+            let less : left - 2 ≡ k = omega arith in
+            rw less (omega (arith, g .room, pow-suc 2 k, pow-suc 2 (suc k)))
+
+    -- one of them
+    pub narrowing-quarter : 1 < left → {found : ℕ} → found ≡ quartered values key low (2 ^ (left - 2)) → Narrowing found (left - 2)
+    unfolding narrowed
+    narrowing-quarter two {found} q = go left refl two s
+      where
+        go : (n : ℕ) → left ≡ n → 1 < n → Narrowing low n → Narrowing found (left - 2)
+        go zero e h g = absurd (omega arith)
+        go (suc zero) e h g = absurd (omega arith)
+        go (suc (suc k)) e h g =
+            let less : left - 2 ≡ k = omega arith in
+            let is : found ≡ quartered values key low (2 ^ k) = q ∙ ap (λ (n : ℕ). quartered values key low (2 ^ n)) less in
             record {
-              room = rw less (omega (arith, g .room, pow-suc 2 k, is, up-most (getD values (low + 2 ^ k) (pos 0)) key (2 ^ k)));
-              finds = ap (halved values key (low + step)) less ∙ ap (λ (n : ℕ). halved values key (low + n) k) is ∙ g .finds;
+              room = rw less (omega (arith, g .room, pow-suc 2 k, pow-suc 2 (suc k), is, quartered-most low (2 ^ k)));
+              finds = ap (narrowed values key found) less ∙ ap (λ (n : ℕ). narrowed values key n k) is ∙ g .finds;
             }
 
-    -- one value
-    module _ (none : left ≤ 0) where
-      pub halving-last : low < length values
-      halving-last = omega (arith, s .room, pow-pos left)
+    -- one of the last two values, where there are two
+    pub narrowing-half : left < 2 → {found : ℕ} → found ≡ cond (eqb left 0) low (low + upOver (getD values (low + 1) (pos 0)) key 1) → Narrowing found 0
+    unfolding narrowed
+    narrowing-half few {found} q = go left refl few s
+      where
+        go : (n : ℕ) → left ≡ n → n < 2 → Narrowing low n → Narrowing found 0
+        go zero e h g =
+            let is : found ≡ low = q ∙ ap (λ (n : ℕ). cond (eqb n 0) low (low + upOver (getD values (low + 1) (pos 0)) key 1)) e in
+            rw is g
+        go (suc zero) e h g =
+            let is : found ≡ low + upOver (getD values (low + 1) (pos 0)) key 1 = q ∙ ap (λ (n : ℕ). cond (eqb n 0) low (low + upOver (getD values (low + 1) (pos 0)) key 1)) e in
+            record {
+              room = omega (arith, g .room, is, up-most (getD values (low + 1) (pos 0)) key 1);
+              finds = ap (λ (n : ℕ). narrowed values key n 0) is ∙ g .finds;
+            }
+        go (suc (suc k)) e h g = absurd (omega arith)
 
-      module _ {step : ℕ} {value : ℤ} (v : value ≡ getD values low (pos 0)) (t : step ≡ upOver value key 1) where
-        pub halving-most : low + step ≤ length values
-        halving-most = omega (arith, halving-last, up-most value key 1)
+  -- one value
+  module _ {low : ℕ} (s : Narrowing low 0) where
+    pub narrowing-last : low < length values
+    narrowing-last = omega (arith, s .room)
 
-        pub halving-done : low + step ≡ searched values key
-        unfolding halved
-        halving-done =
-            let e : left ≡ 0 = omega arith in
-            ap (λ (n : ℕ). low + n) (t ∙ ap (λ (x : ℤ). upOver x key 1) v) ∙ ap (halved values key low) (sym e) ∙ s .finds
+    module _ {step : ℕ} {value : ℤ} (v : value ≡ getD values low (pos 0)) (t : step ≡ upOver value key 1) where
+      pub narrowing-most : low + step ≤ length values
+      narrowing-most = omega (arith, narrowing-last, t, up-most value key 1)
+
+      pub narrowing-done : low + step ≡ searched values key
+      unfolding narrowed
+      narrowing-done = ap (λ (n : ℕ). low + n) (t ∙ ap (λ (x : ℤ). upOver x key 1) v) ∙ s .finds
 
   -- ---- among rising values
 
   module _ (rising : Rising values) where
-    halved-code : (left low : ℕ) → low + 2 ^ left ≤ length values → low ≤ codeOf values key → codeOf values key ≤ low + 2 ^ left → halved values key low left ≡ codeOf values key
-    unfolding halved
-    halved-code zero low room a b = go (ltZ (getD values low (pos 0)) key) refl
+    -- the code lies in a list from `low` to `far` places on
+    abbrev Within : ℕ → ℕ → Type 0
+    Within low far = (low ≤ codeOf values key) × (codeOf values key ≤ low + far)
+
+    -- it lies in the quarter that is left: of the three values those below it are less than the key, and no other
+    quartered-code : (low far : ℕ) → low + 4 * far ≤ length values → 0 < far → Within low (4 * far) → Within (quartered values key low far) far
+    unfolding quartered
+    quartered-code low far room some w = go (ltZ lower key) refl (ltZ middle key) refl (ltZ upper key) refl
+      where
+        lower : ℤ
+        lower = getD values (low + far) (pos 0)
+
+        middle : ℤ
+        middle = getD values (low + 2 * far) (pos 0)
+
+        upper : ℤ
+        upper = getD values (low + 3 * far) (pos 0)
+
+        above : (at : ℕ) → at < length values → ltZ (getD values at (pos 0)) key ≡ true → at < codeOf values key
+        above at h e = code-above key values at rising h e
+
+        below : (at : ℕ) → at < length values → ltZ (getD values at (pos 0)) key ≡ false → codeOf values key ≤ at
+        below at h e = code-below key values at h e
+
+        go : (a : Bool) → ltZ lower key ≡ a → (b : Bool) → ltZ middle key ≡ b → (c : Bool) → ltZ upper key ≡ c
+            → Within (low + cond a far 0 + cond b far 0 + cond c far 0) far
+        go true ea true eb true ec = let u = above (low + 3 * far) (omega arith) ec in (omega arith, omega (arith, w .1))
+        go true ea true eb false ec =
+            let m = above (low + 2 * far) (omega arith) eb in
+            let u = below (low + 3 * far) (omega arith) ec in
+            (omega arith, omega arith)
+        go true ea false eb true ec =
+            let m = below (low + 2 * far) (omega arith) eb in
+            let u = above (low + 3 * far) (omega arith) ec in
+            absurd (omega arith)
+        go true ea false eb false ec =
+            let l = above (low + far) (omega arith) ea in
+            let m = below (low + 2 * far) (omega arith) eb in
+            (omega arith, omega arith)
+        go false ea true eb c ec =
+            let l = below (low + far) (omega arith) ea in
+            let m = above (low + 2 * far) (omega arith) eb in
+            absurd (omega arith)
+        go false ea false eb true ec =
+            let l = below (low + far) (omega arith) ea in
+            let u = above (low + 3 * far) (omega arith) ec in
+            absurd (omega arith)
+        go false ea false eb false ec = let l = below (low + far) (omega arith) ea in (omega (arith, w .0), omega arith)
+
+    -- or it is the last value's place, or the one after it
+    last-code : (low : ℕ) → low + 1 ≤ length values → Within low 1 → narrowed values key low zero ≡ codeOf values key
+    unfolding narrowed
+    last-code low room w = go (ltZ (getD values low (pos 0)) key) refl
       where
         go : (t : Bool) → ltZ (getD values low (pos 0)) key ≡ t → low + cond t 1 0 ≡ codeOf values key
-        go true e = omega (arith, code-above key values low rising (omega arith) e)
-        go false e = omega (arith, code-below key values low (omega arith) e)
-    halved-code (suc k) low room a b = go (ltZ (getD values (low + 2 ^ k) (pos 0)) key) refl (halved-code k)
-      where
-        there : low + 2 ^ k < length values
-        there = omega (arith, pow-suc 2 k, pow-pos k)
+        go true e = omega (arith, w .1, code-above key values low rising (omega arith) e)
+        go false e = omega (arith, w .0, code-below key values low (omega arith) e)
 
-        go : (t : Bool) → ltZ (getD values (low + 2 ^ k) (pos 0)) key ≡ t
-            → ((l : ℕ) → l + 2 ^ k ≤ length values → l ≤ codeOf values key → codeOf values key ≤ l + 2 ^ k → halved values key l k ≡ codeOf values key)
-            → halved values key (low + cond t (2 ^ k) 0) k ≡ codeOf values key
-        go true e i = i (low + 2 ^ k) (omega (arith, pow-suc 2 k)) (omega (arith, code-above key values (low + 2 ^ k) rising there e)) (omega (arith, pow-suc 2 k))
-        go false e i =
-            i (low + 0) (omega (arith, pow-suc 2 k)) (omega arith) (omega (arith, code-below key values (low + 2 ^ k) there e))
+    narrowed-code : (left low : ℕ) → low + 2 ^ left ≤ length values → Within low (2 ^ left) → narrowed values key low left ≡ codeOf values key
+    unfolding narrowed
+    narrowed-code zero low room w = last-code low room w
+    narrowed-code (suc zero) low room w = go (ltZ (getD values (low + 1) (pos 0)) key) refl
+      where
+        go : (t : Bool) → ltZ (getD values (low + 1) (pos 0)) key ≡ t → narrowed values key (low + cond t 1 0) zero ≡ codeOf values key
+        go true e =
+            last-code (low + 1) (omega arith) (omega (arith, code-above key values (low + 1) rising (omega arith) e), omega (arith, w .1))
+        go false e =
+            last-code (low + 0) (omega arith) (omega (arith, w .0), omega (arith, code-below key values (low + 1) (omega arith) e))
+    narrowed-code (suc (suc k)) low room w =
+        let four : 2 ^ suc (suc k) ≡ 4 * 2 ^ k = omega (arith, pow-suc 2 k, pow-suc 2 (suc k)) in
+        narrowed-code k (quartered values key low (2 ^ k)) (omega (arith, four, quartered-most low (2 ^ k)))
+        (quartered-code low (2 ^ k) (omega (arith, four)) (pow-pos k) (w .0, omega (arith, four, w .1)))
 
     -- a search finds the key's code
     pub searched-code : length values < 2 ^ 64 → searched values key ≡ codeOf values key
@@ -145,18 +240,18 @@ module _ (values : List ℤ) (key : ℤ) where
         n = length values
 
         last : ℕ
-        last = n - 2 ^ halvings n
+        last = n - 2 ^ powerIn n
 
         some : 0 < n → searched values key ≡ codeOf values key
         some h =
             let w = width-power n h fits in
             sym (searched-some h) ∙ first w (ltZ (getD values last (pos 0)) key) refl
           where
-            first : (2 ^ halvings n ≤ n) × (n < 2 * 2 ^ halvings n) → (t : Bool) → ltZ (getD values last (pos 0)) key ≡ t → halved values key (cond t last 0) (halvings n) ≡ codeOf values key
+            first : (2 ^ powerIn n ≤ n) × (n < 2 * 2 ^ powerIn n) → (t : Bool) → ltZ (getD values last (pos 0)) key ≡ t → narrowed values key (cond t last 0) (powerIn n) ≡ codeOf values key
             first w true e =
-                halved-code (halvings n) last (omega arith) (omega (arith, code-above key values last rising (omega (arith, pow-pos (halvings n))) e)) (omega (arith, code-le key values))
+                narrowed-code (powerIn n) last (omega arith) (omega (arith, code-above key values last rising (omega (arith, pow-pos (powerIn n))) e), omega (arith, code-le key values))
             first w false e =
-                halved-code (halvings n) 0 (omega arith) (omega arith) (omega (arith, code-below key values last (omega (arith, pow-pos (halvings n))) e))
+                narrowed-code (powerIn n) 0 (omega arith) (omega arith, omega (arith, code-below key values last (omega (arith, pow-pos (powerIn n))) e))
 
         go : Dec (0 < n) → searched values key ≡ codeOf values key
         go (yes h) = some h

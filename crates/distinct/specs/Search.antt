@@ -1,4 +1,4 @@
--- Looking for a key in a list of values by halving. The definitions say where every halving goes, so they say what is found in any list; in a rising one it is the key's code, the
+-- Looking for a key in a list of values by quarters. The definitions say where every turn goes, so they say what is found in any list; in a rising one it is the key's code, the
 -- number of values that are less (proofs/Searching, `searched-code`).
 use Prim.Native.Nat.{ℕ, zero, suc, _+_, _-_, _*_, _/_, _%_, _^_}
 use mathlib.Core.Bool.{Bool, cond, _&&_}
@@ -15,21 +15,28 @@ use Rattle.format.specs.Width.{width}
 abbrev pub upOver : ℤ → ℤ → ℕ → ℕ
 upOver value key far = cond (ltZ value key) far 0
 
--- what is found from `low` on, with so many halvings left: each asks the value in the middle of 2^(k + 1), and the last one the value at `low`
-unfoldable pub halved : List ℤ → ℤ → ℕ → ℕ → ℕ
-halved values key low zero = low + upOver (getD values low (pos 0)) key 1
-halved values key low (suc k) = halved values key (low + upOver (getD values (low + 2 ^ k) (pos 0)) key (2 ^ k)) k
+-- where a turn goes in 4 quarters of `far` values from `low` on: up over a quarter for each of the three values between them that is less than the key
+unfoldable pub quartered : List ℤ → ℤ → ℕ → ℕ → ℕ
+quartered values key low far =
+    low + upOver (getD values (low + far) (pos 0)) key far + upOver (getD values (low + 2 * far) (pos 0)) key far
+    + upOver (getD values (low + 3 * far) (pos 0)) key far
 
--- how many halvings some values need: 2 to that power is at most their number, and more than half of it
-abbrev pub halvings : ℕ → ℕ
-halvings count = width count - 1
+-- what is found in 2^left values from `low` on: a turn leaves a quarter of them, or a half of the last two, and the last value is asked
+unfoldable pub narrowed : List ℤ → ℤ → ℕ → ℕ → ℕ
+narrowed values key low zero = low + upOver (getD values low (pos 0)) key 1
+narrowed values key low (suc zero) = narrowed values key (low + upOver (getD values (low + 1) (pos 0)) key 1) zero
+narrowed values key low (suc (suc k)) = narrowed values key (quartered values key low (2 ^ k)) k
 
--- WHAT A SEARCH FINDS: it halves the first 2^k values, or the last ones if the first of these is less than the key; among no values it finds 0
+-- the power of two that is at most the number of some values, and more than half of it
+abbrev pub powerIn : ℕ → ℕ
+powerIn count = width count - 1
+
+-- WHAT A SEARCH FINDS in the first 2^k values, or in the last ones if the first of these is less than the key; among no values it finds 0
 unfoldable pub searched : List ℤ → ℤ → ℕ
 searched values key =
-    let k = halvings (length values) in
+    let k = powerIn (length values) in
     let last = length values - 2 ^ k in
-    cond (eqb (length values) 0) 0 (halved values key (upOver (getD values last (pos 0)) key last) k)
+    cond (eqb (length values) 0) 0 (narrowed values key (upOver (getD values last (pos 0)) key last) k)
 
 -- whether a key stands at a place
 unfoldable pub standsAt : List ℤ → ℕ → ℤ → Bool

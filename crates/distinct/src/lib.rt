@@ -9,24 +9,26 @@ ghost use Rattle.distinct.specs.Collect.{collectAnswer};
 ghost use Rattle.distinct.specs.Search.{searched, slotOf, standsAt};
 use crate::fill::fill_few;
 use crate::fill::fill_many;
-use crate::halving::begin;
-use crate::halving::power;
-use crate::halving::step;
 use crate::key::same;
+use crate::quarters::begin;
+use crate::quarters::half;
+use crate::quarters::power;
+use crate::quarters::quarter;
+use crate::quarters::step;
 use format::Answer;
 use format::limits::MAX_CHUNK_ELEMENTS;
 use format::limits::MAX_DICTIONARY_CARDINALITY;
 
 pub(crate) mod fill;
-pub(crate) mod halving;
 pub(crate) mod insert;
 pub(crate) mod key;
 pub(crate) mod known;
 pub(crate) mod merge;
+pub(crate) mod quarters;
 
-// A binary search. Among rising values it finds how many are less than the key; in any other list, where the halvings lead.
-// The answer lies in 2^left places from `low` on, and every turn halves them; to begin with these are the first or the last of
-// the values, whichever the answer lies in.
+// A search by quarters. Among rising values it finds how many are less than the key; in any other list, where the turns lead.
+// The answer lies in 2^left places from `low` on, and every turn leaves a quarter of them; to begin with these are the first or the
+// last of the values, whichever the answer lies in.
 pub fn search(values: &[i64], key: i64) -> usize
     ensures { λ r. ⌜ r ≡ searched (now (values .entry)) key ⌝ }
 {
@@ -37,12 +39,12 @@ pub fn search(values: &[i64], key: i64) -> usize
     let mut left = number::required_width(count as u64) - 1;
     let last = count - power(left);
     let mut low = begin(values[last], key, last);
-    while left > 0 {
-        left -= 1;
-        let middle = low + power(left);
-        low += step(values[middle], key, left);
+    while left > 1 {
+        left -= 2;
+        low = quarter(values, key, low, left);
     }
-    low + step(values[low], key, 0)
+    let at = half(values, key, low, left);
+    at + step(values[at], key, 0)
 }
 
 // Whether a key stands at a place.

@@ -1,9 +1,9 @@
--- `search` meets its contract: each turn keeps `Halving`.
+-- `search` meets its contract: each turn keeps `Narrowing`.
 use mathlib.Core.Path.{ap, _∙_}
 use Prim.Native.Nat.{ℕ, _-_, _<_}
 use native.Mathlib.Omega.{arith}
 use mir.Syntax.{w64}
-use mir.Val.{toZ}
+use mir.Val.{toZ, ofZ}
 use mir.Facts.{toZ-ofZ}
 use lib.ListN.{length}
 use lib.Pow.{pow-pos}
@@ -11,12 +11,12 @@ use borrow.Author.Needs.{needs}
 use Rattle.format.proofs.numbers.Widths.{width-le}
 use Rattle.distinct.specs.Search.{searched}
 use Rattle.distinct.proofs.Machine.{read-back}
-use Rattle.distinct.proofs.Searching.{width-some, width-power, searched-none, Halving, halving-first, halving-middle, halving-half, halving-last, halving-most, halving-done}
+use Rattle.distinct.proofs.Searching.{width-some, width-power, searched-none, Narrowing, narrowing-first, narrowing-quarters, narrowing-quarter, narrowing-half, narrowing-last, narrowing-most, narrowing-done}
 use Rattle.distinct.proofs.search.Statement.{statement}
 use Rattle.distinct.proofs.search.Tie as tie
 
 abbrev Inv-loop : tie.InvT-loop
-Inv-loop values key count left₀ last low₀ left low = (left < 64) × Halving values (toZ w64 key) low left
+Inv-loop values key count left₀ last low₀ left low = (left < 64) × Narrowing values (toZ w64 key) low left
 
 abbrev μ-loop : tie.MeasureT-loop
 μ-loop values key count left₀ last low₀ left low = left
@@ -47,43 +47,37 @@ loop-holds c =
     let values = c .before .before .before .before .before .args .values .now in
     let w = c .before .before .before .required-width .ensures in
     let p = width-power (length values) (search needs) (search needs) in
-    let first = halving-first values _ (search needs) (p .0) (ap (λ (n : ℕ). n - 1) w) (c .before .before .power .ensures) (read-back (c .before .begin-arg .given)) (c .begin .ensures) in
+    let first = narrowing-first values _ (search needs) (p .0) (ap (λ (n : ℕ). n - 1) w) (c .before .before .power .ensures) (read-back (c .before .begin-arg .given)) (c .begin .ensures) in
     (omega (arith, w, width-le (length values)), first)
 
-shared-slice-copy-out-step : tie.Need-shared-slice-copy-out-step Inv-loop μ-loop
-shared-slice-copy-out-step c = halving-middle _ _ (c .before .before .loop .inv .1) (c .before .loop-test .taken) (c .power2 .ensures)
-
-add-middle : tie.Need-add-middle Inv-loop μ-loop
-add-middle c = omega (arith, shared-slice-copy-out-step c)
-
-mul-step : tie.Need-mul-step Inv-loop μ-loop
-mul-step c = omega (arith, shared-slice-copy-out-step c)
+quarter-requires : tie.Need-quarter-requires Inv-loop μ-loop
+quarter-requires c κs =
+    let l = c .before .loop in
+    (omega (arith, l .inv .0, c .loop-test .taken), narrowing-quarters _ _ (l .inv .1) (c .loop-test .taken))
 
 loop-again : tie.Need-loop-again Inv-loop μ-loop
 loop-again c =
-    let l = c .before .before .before .before .loop in
-    let taken = c .before .before .before .loop-test .taken in
-    (search needs, halving-half _ _ (l .inv .1) taken (c .before .before .power2 .ensures) (read-back (c .before .step-arg .given)) (c .step .ensures))
+    let l = c .before .before .loop in
+    (omega (arith, l .inv .0), narrowing-quarter _ _ (l .inv .1) (c .before .loop-test .taken) (c .quarter .ensures))
 
-add-low : tie.Need-add-low Inv-loop μ-loop
-add-low c = omega (arith, loop-again c .1 .room)
+half-requires : tie.Need-half-requires Inv-loop μ-loop
+half-requires c κs = (omega (arith, c .loop-test .left), c .before .loop .inv .1 .room)
 
-shared-slice-copy-out-step-2 : tie.Need-shared-slice-copy-out-step-2 Inv-loop μ-loop
-shared-slice-copy-out-step-2 c = halving-last _ _ (c .before .loop .inv .1) (c .loop-test .left)
+-- one value is left
+last : (c : tie.After-half Inv-loop μ-loop) → let a = c .before .before .before .before .before .before .before .before .args in
+    Narrowing (a .values .now) (toZ w64 (ofZ w64 (a .key))) (c .half .result) 0
+last c = narrowing-half _ _ (c .before .before .loop .inv .1) (omega (arith, c .before .loop-test .left)) (c .half .ensures)
 
-mul-step-2 : tie.Need-mul-step-2 Inv-loop μ-loop
-mul-step-2 c = omega (arith, shared-slice-copy-out-step-2 c)
+shared-slice-copy-out-step : tie.Need-shared-slice-copy-out-step Inv-loop μ-loop
+shared-slice-copy-out-step c = narrowing-last _ _ (last c)
 
 add-result : tie.Need-add-result Inv-loop μ-loop
-add-result c =
-    let l = c .before .before .before .loop in
-    omega (arith, halving-most _ _ (l .inv .1) (c .before .before .loop-test .left) (read-back (c .before .step-arg2 .given)) (c .step2 .ensures))
+add-result c = omega (arith, narrowing-most _ _ (last (c .before .before)) (read-back (c .before .step-arg .given)) (c .step .ensures .0))
 
 returns-2 : tie.Need-returns-2 Inv-loop μ-loop
 returns-2 c =
-    let l = c .before .before .before .loop in
-    let start = c .before .before .before .before .before .before .before .before .before in
-    halving-done _ _ (l .inv .1) (c .before .before .loop-test .left) (read-back (c .before .step-arg2 .given)) (c .step2 .ensures) ∙ ap (searched _) (toZ-ofZ (start .fits .key))
+    let start = c .before .before .before .before .before .before .before .before .before .before in
+    narrowing-done _ _ (last (c .before .before)) (read-back (c .before .step-arg .given)) (c .step .ensures .0) ∙ ap (searched _) (toZ-ofZ (start .fits .key))
 
 pub search-spec : {M : Type 1} → statement M
 search-spec =
@@ -101,16 +95,12 @@ search-spec =
     (λ c κs. search needs)
     loop-holds
     (λ c. search needs)
-    (λ c κs. search needs)
-    add-middle
-    mul-step
-    shared-slice-copy-out-step
-    (λ c κs. search needs)
-    add-low
+    quarter-requires
     (λ c. search needs)
     loop-again
-    mul-step-2
-    shared-slice-copy-out-step-2
+    half-requires
+    (λ c. omega (arith, narrowing-last _ _ (last c)))
+    shared-slice-copy-out-step
     (λ c κs. search needs)
     add-result
     returns-2)

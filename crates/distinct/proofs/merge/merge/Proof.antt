@@ -1,6 +1,5 @@
 -- `merge` meets its contract: each turn keeps `Merging`.
 use mathlib.Core.Path.{sym}
-use Prim.Native.Nat.{_-_}
 use native.Mathlib.Omega.{arith}
 use lib.Seq.{length-take-le}
 use borrow.Author.Needs.{needs}

@@ -1,8 +1,8 @@
--- The test of the two keys decides.
+-- `begin` meets its contract: the test of the two keys decides.
 use mathlib.Core.Path.{_∙_, sym}
 use Rattle.distinct.proofs.Machine.{compared}
-use Rattle.distinct.proofs.halving.begin.Statement.{statement}
-use Rattle.distinct.proofs.halving.begin.Tie as tie
+use Rattle.distinct.proofs.quarters.begin.Statement.{statement}
+use Rattle.distinct.proofs.quarters.begin.Tie as tie
 
 returns : tie.Need-returns
 returns c = let f = c .before .fits in rw (sym (compared (f .value) (f .key)) ∙ c .if1 .taken)
