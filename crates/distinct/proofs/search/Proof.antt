@@ -53,12 +53,12 @@ loop-holds c =
 quarter-requires : tie.Need-quarter-requires Inv-loop μ-loop
 quarter-requires c κs =
     let l = c .before .loop in
-    (omega (arith, l .inv .0, c .loop-test .taken), narrowing-quarters _ _ (l .inv .1) (c .loop-test .taken))
+    (omega (arith, l .inv .0, c .loop-test .taken), narrowing-quarters _ _ (l .inv .1) (omega (arith, c .loop-test .taken)))
 
 loop-again : tie.Need-loop-again Inv-loop μ-loop
 loop-again c =
     let l = c .before .before .loop in
-    (omega (arith, l .inv .0), narrowing-quarter _ _ (l .inv .1) (c .before .loop-test .taken) (c .quarter .ensures))
+    (omega (arith, l .inv .0), narrowing-quarter _ _ (l .inv .1) (omega (arith, c .before .loop-test .taken)) (c .quarter .ensures))
 
 half-requires : tie.Need-half-requires Inv-loop μ-loop
 half-requires c κs = (omega (arith, c .loop-test .left), c .before .loop .inv .1 .room)
