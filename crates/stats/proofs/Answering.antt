@@ -96,7 +96,7 @@ module _ (column : List ℤ) (room : ℕ) where
 
   -- ---- the distinct values that are handed back
 
-  part-exact : {n : ℕ} → Tells (Accepted n) → n ≡ length (distinctValuesPart column room)
+  pub part-exact : {n : ℕ} → Tells (Accepted n) → n ≡ length (distinctValuesPart column room)
   unfolding distinctValuesPart distinctValues
   part-exact (exact passed few e) = rw (passed, few) e
 
