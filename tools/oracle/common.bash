@@ -1,6 +1,6 @@
 # shellcheck shell=bash
-# Shared by tools/oracle/build, tools/oracle/answers, tools/oracle/definitions and tools/bench/run, which source this file and
-# have their own folder in $here.
+# Shared by tools/oracle/build, tools/oracle/answers, tools/oracle/definitions, tools/bench/run and tools/differential/run, which
+# source this file and have their own folder in $here.
 
 # The build folder lies outside the tree, so that no line of the original gets into it.
 # shellcheck disable=SC2034

@@ -37,7 +37,8 @@ pub fn samples() -> Vec<Vec<i64>> {
     ]
 }
 
-fn shapes(count: usize, source: &mut Source) -> Vec<Vec<i64>> {
+/// A column of each shape.
+pub fn shapes(count: usize, source: &mut Source) -> Vec<Vec<i64>> {
     let start = source.below(1 << 40) as i64;
     let far = [source.word() as i64, source.word() as i64, source.word() as i64];
     vec![
