@@ -1,3 +1,2 @@
 -- What the contracts of `bench` cite beside the definitions of `format`.
-pub mod Flat
 pub mod Rows

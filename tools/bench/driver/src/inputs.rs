@@ -69,7 +69,7 @@ impl Mix {
             .map(|_| {
                 let length = match self {
                     Mix::Lengths(first, last) => first + (random.next() % u64::from(last - first + 1)) as u32,
-                    Mix::MostlyOne => 1 + u32::from(random.next() % 16 == 0),
+                    Mix::MostlyOne => 1 + u32::from(random.below(16) == 0),
                 };
                 random.of_length(length)
             })

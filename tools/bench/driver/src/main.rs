@@ -1,74 +1,85 @@
 //! Times our proved code against the original Rust, both in one run on the same inputs. See docs/BENCHMARKS.md.
 
+mod allocation;
 mod analysis;
 mod codecs;
+mod growth;
 mod inputs;
 mod options;
 mod ours;
 mod packing;
+mod row;
 mod shapes;
 mod table;
 mod timing;
 mod varints;
+mod whole;
 
 use options::Options;
-use table::Row;
-use varints::Reading;
+use row::Row;
+use std::io::{self, IsTerminal, Write};
+use std::process::ExitCode;
+use table::Table;
+use timing::PASSES;
 
-/// The table is gone through so often, so that a disturbance of some seconds does not meet all rounds of a row.
-const PASSES: usize = 3;
-
-/// Every row once.
-fn pass(options: &Options) -> Vec<Row> {
-    let mut rows = if options.leaves { leaves(options) } else { Vec::new() };
-    if options.codecs {
-        rows.extend(shapes::SHAPES.iter().flat_map(|shape| codecs::rows(shape, options)));
-    }
-    if options.analysis {
-        rows.extend(shapes::SHAPES.iter().chain(&shapes::HARD).flat_map(|shape| analysis::rows(shape, options)));
+/// The rows with the best times of all passes.
+fn best_of_passes(pass: fn(&Options) -> Vec<Row>, options: &Options) -> Vec<Row> {
+    say(1);
+    let mut rows = pass(options);
+    for number in 2..=PASSES {
+        say(number);
+        for (row, again) in rows.iter_mut().zip(pass(options)) {
+            row.times.keep_best(&again.times);
+        }
     }
     rows
 }
 
-/// Packing and varints.
-fn leaves(options: &Options) -> Vec<Row> {
-    let widths = packing::WIDTHS;
-    let mixes = inputs::MIXES;
-    let packs = widths.iter().map(|&width| packing::pack_row(width, options));
-    let unpacks = widths.iter().map(|&width| packing::unpack_row(width, options));
-    let inlined = mixes.iter().map(|&mix| varints::read_row(Reading::Inlined, mix, options));
-    let called = mixes.iter().map(|&mix| varints::read_row(Reading::Called, mix, options));
-    let writes = mixes.iter().map(|&mix| varints::write_row(mix, options));
-    packs.chain(unpacks).chain(inlined).chain(called).chain(writes).collect()
+/// A pass takes up to a minute, in which nothing is printed.
+fn say(pass: usize) {
+    if io::stderr().is_terminal() {
+        eprintln!("pass {pass} of {PASSES}");
+    }
 }
 
-fn main() {
-    let options = Options::from_arguments().unwrap_or_else(|message| {
-        eprintln!("bench: {message}");
-        std::process::exit(2);
-    });
-    let mut rows = pass(&options);
-    for _ in 1..PASSES {
-        for (row, again) in rows.iter_mut().zip(pass(&options)) {
-            row.times.keep_best(&again.times);
+/// A table and its notes, in lines.
+fn section(table: &Table, notes: &[String], options: &Options) -> String {
+    let mark = if options.markdown { "- " } else { "" };
+    let mut lines = table.text(options.markdown);
+    lines.push(String::new());
+    lines.extend(notes.iter().map(|note| format!("{mark}{note}")));
+    lines.iter().map(|line| format!("{line}\n")).collect()
+}
+
+/// Each table as soon as it is measured.
+fn print_tables(options: &Options, out: &mut impl Write) -> io::Result<()> {
+    if options.of_whole() {
+        let rows = best_of_passes(whole::rows, options);
+        out.write_all(section(&whole::table(&rows), &whole::notes(&rows, options), options).as_bytes())?;
+    }
+    if options.of_whole() && options.growth {
+        writeln!(out)?;
+    }
+    if options.growth {
+        let rows = best_of_passes(growth::rows, options);
+        out.write_all(section(&growth::table(&rows), &growth::notes(options), options).as_bytes())?;
+    }
+    out.flush()
+}
+
+fn main() -> ExitCode {
+    let options = match Options::from_arguments() {
+        Ok(options) => options,
+        Err(message) => {
+            eprintln!("bench: {message}");
+            return ExitCode::from(2);
         }
-    }
-    table::print(&rows, options.markdown);
-    println!();
-    println!(
-        "Best of {PASSES} times {} rounds, of {} values where no other number is given.",
-        options.rounds, options.count
-    );
-    if options.leaves || options.codecs {
-        let allocation = packing::allocation(&options);
-        println!("Of the Rust's unpack and decode, {allocation:.2} ns a value are for its new Vec.");
-    }
-    for operation in ["encode", "decode", "analyze"] {
-        if let Some(mean) = table::mean(&rows, operation) {
-            println!("{operation}: {mean:.2} times as fast, as the geometric mean of its rows.");
+    };
+    match print_tables(&options, &mut io::stdout()) {
+        Ok(()) => ExitCode::SUCCESS,
+        Err(error) => {
+            eprintln!("bench: the table could not be printed: {error}.");
+            ExitCode::FAILURE
         }
-    }
-    for row in rows.iter().filter(|row| row.missed()) {
-        println!("Below what is wanted: {} {}", row.operation, row.input);
     }
 }

@@ -2,6 +2,7 @@
 
 /// Our calls refuse more values, as document 01 says.
 const MOST_VALUES: usize = 1 << 24;
+const MOST_ROUNDS: usize = 1_000_000;
 
 pub struct Options {
     pub count: usize,
@@ -10,34 +11,53 @@ pub struct Options {
     pub leaves: bool,
     pub codecs: bool,
     pub analysis: bool,
+    pub growth: bool,
 }
 
 impl Options {
+    /// The parts that are named, or the whole where none is.
     pub fn from_arguments() -> Result<Options, String> {
-        let mut options =
-            Options { count: 1_000_000, rounds: 25, markdown: false, leaves: true, codecs: true, analysis: true };
+        let mut options = Options {
+            count: 1_000_000,
+            rounds: 25,
+            markdown: false,
+            leaves: false,
+            codecs: false,
+            analysis: false,
+            growth: false,
+        };
         let mut arguments = std::env::args().skip(1);
         while let Some(argument) = arguments.next() {
-            match argument.as_str() {
-                "--count" => options.count = number("--count", arguments.next(), MOST_VALUES)?,
-                "--rounds" => options.rounds = number("--rounds", arguments.next(), 1_000_000)?,
-                "--markdown" => options.markdown = true,
-                "--leaves" => options.only(true, false, false),
-                "--codecs" => options.only(false, true, false),
-                "--analysis" => options.only(false, false, true),
-                _ => {
-                    return Err(format!(
-                        "there is no option {argument}; the options are --count VALUES, --rounds ROUNDS, --markdown, \
-                         --leaves, --codecs and --analysis."
-                    ))
-                }
-            }
+            options.take(&argument, &mut arguments)?;
+        }
+        if !(options.of_whole() || options.growth) {
+            (options.leaves, options.codecs, options.analysis) = (true, true, true);
         }
         Ok(options)
     }
 
-    fn only(&mut self, leaves: bool, codecs: bool, analysis: bool) {
-        (self.leaves, self.codecs, self.analysis) = (leaves, codecs, analysis);
+    fn take(&mut self, argument: &str, rest: &mut impl Iterator<Item = String>) -> Result<(), String> {
+        match argument {
+            "--count" => self.count = number(argument, rest.next(), MOST_VALUES)?,
+            "--rounds" => self.rounds = number(argument, rest.next(), MOST_ROUNDS)?,
+            "--markdown" => self.markdown = true,
+            "--leaves" => self.leaves = true,
+            "--codecs" => self.codecs = true,
+            "--analysis" => self.analysis = true,
+            "--growth" => self.growth = true,
+            _ => {
+                return Err(format!(
+                    "there is no option {argument}; the options are --count VALUES, --rounds ROUNDS, --markdown, \
+                     --leaves, --codecs, --analysis and --growth."
+                ))
+            }
+        }
+        Ok(())
+    }
+
+    /// Whether there are rows for the table of the whole.
+    pub fn of_whole(&self) -> bool {
+        self.leaves || self.codecs || self.analysis
     }
 }
 

@@ -1,26 +1,34 @@
-//! Columns of seven shapes: random from a fixed seed, so that each run has the same.
+//! Columns of ten shapes, and of three that are hard to plan: random from a fixed seed, so that each run has the same.
 
 use crate::inputs::Random;
 
+#[derive(Clone, Copy)]
 pub struct Shape {
     pub name: &'static str,
     make: fn(&mut Random, usize) -> Vec<i64>,
 }
 
-pub const SHAPES: [Shape; 7] = [
-    Shape { name: "sorted ids", make: sorted_ids },
-    Shape { name: "0 to 199", make: small },
-    Shape { name: "random 64-bit", make: random },
-    Shape { name: "long runs", make: long_runs },
-    Shape { name: "10,000 distinct, wide", make: ten_thousand },
-    Shape { name: "timestamps with jitter", make: timestamps },
-    Shape { name: "mostly small", make: mostly_small },
-];
+pub const SORTED_IDS: Shape = Shape { name: "sorted ids", make: sorted_ids };
+pub const SMALL: Shape = Shape { name: "0 to 199", make: small };
+pub const AROUND_ZERO: Shape = Shape { name: "-100 to 99", make: around_zero };
+pub const RANDOM: Shape = Shape { name: "random 64-bit", make: random_keys };
+pub const LONG_RUNS: Shape = Shape { name: "long runs", make: long_runs };
+pub const ONE_THOUSAND: Shape = Shape { name: "1,000 distinct, wide", make: one_thousand };
+pub const TEN_THOUSAND: Shape = Shape { name: "10,000 distinct, wide", make: ten_thousand };
+pub const TIMESTAMPS: Shape = Shape { name: "timestamps with jitter", make: timestamps };
+pub const MOSTLY_SMALL: Shape = Shape { name: "mostly small", make: mostly_small };
+pub const MIXED: Shape = Shape { name: "mixed stretches", make: mixed };
+
+/// Each encoding is planned for one of them or more.
+pub const SHAPES: [Shape; 10] =
+    [SORTED_IDS, SMALL, AROUND_ZERO, RANDOM, LONG_RUNS, ONE_THOUSAND, TEN_THOUSAND, TIMESTAMPS, MOSTLY_SMALL, MIXED];
+
+pub const ONE_SLOT: Shape = Shape { name: "16,000 distinct, one slot", make: one_slot };
 
 /// Shapes that are hard to collect the distinct values of: our table of the keys met has a slot for each (`slot_of` of the crate
 /// distinct), and here all keys have one slot, or they come in an order in which each goes before those that are held.
 pub const HARD: [Shape; 3] = [
-    Shape { name: "16,000 distinct, one slot", make: one_slot },
+    ONE_SLOT,
     Shape { name: "20,000 distinct, one slot", make: one_slot_too_many },
     Shape { name: "20,000 distinct, falling", make: falling },
 ];
@@ -46,7 +54,12 @@ fn small(random: &mut Random, count: usize) -> Vec<i64> {
     (0..count).map(|_| random.below(200)).collect()
 }
 
-fn random(random: &mut Random, count: usize) -> Vec<i64> {
+/// Of these, v and -1 - v have one slot in our table of the keys met.
+fn around_zero(random: &mut Random, count: usize) -> Vec<i64> {
+    (0..count).map(|_| random.below(200) - 100).collect()
+}
+
+fn random_keys(random: &mut Random, count: usize) -> Vec<i64> {
     (0..count).map(|_| random.next() as i64).collect()
 }
 
@@ -60,10 +73,18 @@ fn long_runs(random: &mut Random, count: usize) -> Vec<i64> {
     column
 }
 
-/// One of 10,000 keys of any size, each as often as any other.
+/// One of so many keys of any size, each as often as any other.
+fn one_of(distinct: usize, random: &mut Random, count: usize) -> Vec<i64> {
+    let keys = random_keys(random, distinct);
+    (0..count).map(|_| keys[random.below(distinct as u64) as usize]).collect()
+}
+
+fn one_thousand(random: &mut Random, count: usize) -> Vec<i64> {
+    one_of(1_000, random, count)
+}
+
 fn ten_thousand(random: &mut Random, count: usize) -> Vec<i64> {
-    let keys: Vec<i64> = (0..10_000).map(|_| random.next() as i64).collect();
-    (0..count).map(|_| keys[random.below(10_000) as usize]).collect()
+    one_of(10_000, random, count)
 }
 
 /// Microseconds: one every millisecond, up to 200 microseconds late.
@@ -73,7 +94,21 @@ fn timestamps(random: &mut Random, count: usize) -> Vec<i64> {
 
 /// From -50 to 49, but one of 20 below 2^40.
 fn mostly_small(random: &mut Random, count: usize) -> Vec<i64> {
-    (0..count).map(|_| if random.below(20) == 0 { random.of_width(40) as i64 } else { random.below(100) - 50 }).collect()
+    (0..count)
+        .map(|_| if random.below(20) == 0 { random.of_width(40) as i64 } else { random.below(100) - 50 })
+        .collect()
+}
+
+/// Stretches of 1 to 500 keys, each of another shape, drawn at random: what no encoding suits, and no branch foresees.
+fn mixed(random: &mut Random, count: usize) -> Vec<i64> {
+    let makes = [sorted_ids, around_zero, random_keys, long_runs, timestamps, mostly_small];
+    let mut column = Vec::with_capacity(count);
+    while column.len() < count {
+        let length = (1 + random.below(500) as usize).min(count - column.len());
+        let make = makes[random.below(makes.len() as u64) as usize];
+        column.extend(make(random, length));
+    }
+    column
 }
 
 /// Each key has the same bits in both halves, so that folding them gives 0.

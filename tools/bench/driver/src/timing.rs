@@ -2,6 +2,9 @@
 
 use std::time::Instant;
 
+/// A table is gone through so often, so that a disturbance of some seconds does not meet all rounds of a row.
+pub const PASSES: usize = 3;
+
 /// The best time of each side, in nanoseconds a value.
 pub struct Times {
     pub original: f64,

@@ -3,8 +3,8 @@
 use crate::inputs::Mix;
 use crate::options::Options;
 use crate::ours;
-use crate::table::Row;
-use crate::timing::alternate;
+use crate::row::Row;
+use crate::timing::{alternate, Times};
 use basalt_common::Result;
 use basalt_encoding::varint;
 use std::hint::black_box;
@@ -62,8 +62,15 @@ fn original_write(values: &[u64], out: &mut Vec<u8>) {
     }
 }
 
+/// Reads varints in a row, as many as the slice has places, and says how many.
+type ReadRow = fn(&[u8], &mut [u64]) -> usize;
+
+fn row(operation: &'static str, mix: Mix, times: Times, options: &Options) -> Row {
+    Row { operation, encoding: None, input: mix.name(), count: options.count, times, wanted: WANTED }
+}
+
 pub fn read_row(reading: Reading, mix: Mix, options: &Options) -> Row {
-    let (operation, original_read): (_, fn(&[u8], &mut [u64]) -> usize) = match reading {
+    let (operation, original_read): (_, ReadRow) = match reading {
         Reading::Inlined => ("read_uvarint, inlined", original_inlined),
         Reading::Called => ("read_uvarint, called", original_called),
     };
@@ -85,7 +92,7 @@ pub fn read_row(reading: Reading, mix: Mix, options: &Options) -> Row {
             black_box(ours::read_uvarints(black_box(&bytes), black_box(&mut out)));
         },
     );
-    Row { operation, input: mix.name(), times, wanted: WANTED }
+    row(operation, mix, times, options)
 }
 
 pub fn write_row(mix: Mix, options: &Options) -> Row {
@@ -106,5 +113,5 @@ pub fn write_row(mix: Mix, options: &Options) -> Row {
             black_box(ours::write_uvarints(black_box(&values), black_box(&mut out)));
         },
     );
-    Row { operation: "write_uvarint", input: mix.name(), times, wanted: WANTED }
+    row("write_uvarint", mix, times, options)
 }
