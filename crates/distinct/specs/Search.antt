@@ -4,7 +4,7 @@ use Prim.Native.Nat.{ℕ, zero, suc, _+_, _-_, _*_, _/_, _%_, _^_}
 use mathlib.Core.Bool.{Bool, cond, _&&_}
 use mathlib.Core.List.{List}
 use lib.IntN.{ℤ, pos}
-use lib.Bits.{bitAnd, bitXor}
+use lib.Bits.{bitAnd}
 use lib.Dec.{ltb, eqb}
 use lib.Signed.{ltZ}
 use lib.ListN.{length, getD}
@@ -42,9 +42,9 @@ searched values key =
 unfoldable pub standsAt : List ℤ → ℕ → ℤ → Bool
 standsAt values at key = ltb at (length values) && eqZ (getD values at (pos 0)) key
 
--- a key's bits mixed, from a product of its two halves with a prime, so that near keys have slots far apart
+-- a key's bits mixed: the sum of its two halves multiplied by a prime, so that near keys have slots far apart, on both sides of 0
 unfoldable pub mixed : ℤ → ℕ
-mixed key = bitXor (residue key) (residue key / 2 ^ 32) % 2 ^ 32 * 2654435761 / 2 ^ 17
+mixed key = (residue key % 2 ^ 32 + residue key / 2 ^ 32) % 2 ^ 32 * 2654435761 / 2 ^ 17
 
 -- THE SLOT OF A KEY in a table of a power of two of slots
 unfoldable pub slotOf : ℤ → ℕ → ℕ

@@ -57,8 +57,8 @@ pub fn stands(values: &[i64], at: usize, key: i64) -> bool
     same(values[at], key)
 }
 
-// The slot of a key in a table of a power of two of slots: bits of its halves' product with a prime, so that near keys have slots
-// far apart. A table of another length is not used evenly, and one of no slots has slot 0.
+// The slot of a key in a table of a power of two of slots: bits of its halves' sum multiplied by a prime, so that near keys have
+// slots far apart, on both sides of 0. A table of another length is not used evenly, and one of no slots has slot 0.
 pub fn slot_of(key: i64, slots: usize) -> usize
     ensures { λ r. ⌜ r ≡ slotOf key slots ⌝ }
 {
@@ -66,7 +66,7 @@ pub fn slot_of(key: i64, slots: usize) -> usize
         return 0;
     }
     let bits = number::bits_of(key);
-    let folded = (bits ^ (bits >> 32)) % 4294967296;
+    let folded = (bits % 4294967296 + (bits >> 32)) % 4294967296;
     (folded * 2654435761 / 131072) as usize & (slots - 1)
 }
 

@@ -17,4 +17,4 @@ unfolding slotOf mixed
 returns-2 c = rw (c .bits-of .ensures ∙ ap residue (toZ-ofZ (c .before .before .fits .key)))
 
 pub slot-of-spec : {M : Type 1} → statement M
-slot-of-spec = tie.close (tie.spec returns (λ c κs. search needs) (λ c. search needs) (λ c. search needs) returns-2)
+slot-of-spec = tie.close (tie.spec returns (λ c κs. search needs) (λ c. search needs) (λ c. search needs) (λ c. search needs) returns-2)

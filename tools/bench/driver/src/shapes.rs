@@ -54,7 +54,6 @@ fn small(random: &mut Random, count: usize) -> Vec<i64> {
     (0..count).map(|_| random.below(200)).collect()
 }
 
-/// Of these, v and -1 - v have one slot in our table of the keys met.
 fn around_zero(random: &mut Random, count: usize) -> Vec<i64> {
     (0..count).map(|_| random.below(200) - 100).collect()
 }
@@ -111,13 +110,13 @@ fn mixed(random: &mut Random, count: usize) -> Vec<i64> {
     column
 }
 
-/// Each key has the same bits in both halves, so that folding them gives 0.
+/// A multiple of 2^32 - 1 has halves whose sum is 2^32 - 1, from which the slot is made.
 fn one_slot(random: &mut Random, count: usize) -> Vec<i64> {
-    (0..count).map(|_| 0x1_0000_0001 * random.below(16_000)).collect()
+    (0..count).map(|_| 0xffff_ffff * random.below(16_000)).collect()
 }
 
 fn one_slot_too_many(random: &mut Random, count: usize) -> Vec<i64> {
-    (0..count).map(|_| 0x1_0000_0001 * random.below(20_000)).collect()
+    (0..count).map(|_| 0xffff_ffff * random.below(20_000)).collect()
 }
 
 fn falling(_: &mut Random, count: usize) -> Vec<i64> {

@@ -20,7 +20,7 @@ const KEYS: [Key; 5] = [
     // far apart, and in no order
     |nth, _| (nth as u64).wrapping_mul(0x9e37_79b9_7f4a_7c15) as i64,
     // all in one slot of our table of keys that were met
-    |nth, _| 0x1_0000_0001 * nth as i64,
+    |nth, _| 0xffff_ffff * nth as i64,
     // rising, with gaps of one byte and two
     |nth, source| 200 * nth as i64 + source.below(200) as i64,
 ];

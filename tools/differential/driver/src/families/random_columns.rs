@@ -89,9 +89,9 @@ fn one_jump(length: usize, source: &mut Source) -> Vec<i64> {
     (0..length as i64).map(|place| if place < jump { place } else { place.wrapping_add(height) }).collect()
 }
 
-/// The halves of each key have the same bits, so that all keys have one slot in our table of keys that were met.
+/// Multiples of 2^32 - 1: the halves of each have the same sum, so that all keys have one slot in our table of keys that were met.
 fn one_slot(length: usize, source: &mut Source) -> Vec<i64> {
-    (0..length).map(|_| 0x1_0000_0001 * source.below(1 + length as u64) as i64).collect()
+    (0..length).map(|_| 0xffff_ffff * source.below(1 + length as u64) as i64).collect()
 }
 
 /// Keys from a least one on that need just so many bits.
