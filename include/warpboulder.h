@@ -1,7 +1,8 @@
 /* Warpboulder: a proved codec for columns of signed 64-bit keys.
  *
  * Link with target/staticlib/libc_api.a, which `rt staticlib c_api` proves and writes (x86-64 Linux). The library allocates
- * nothing, keeps no state and calls nothing, so any number of threads may use it at once.
+ * nothing, keeps no state and calls nothing but memset, so any number of threads may use it at once. A call may take up to 400 KiB of
+ * stack: where a column of more than 384 keys is analysed or written as Dictionary, or a Dictionary chunk is read.
  *
  * ANSWERS. A call that can refuse returns a number, a wb_refusal: WB_ACCEPTED, which is 0, or why it refused. Through its last
  * pointer it stores how many values or bytes it stored at the front of the buffer, or, where it refused, the refusal's offset.
@@ -68,7 +69,7 @@ typedef enum wb_refusal {
   WB_LEVEL_ABOVE_9 = 24,      /* the level is not 0 to 9 */
 
   /* Strict reading. */
-  WB_VARINT_PADDED = 25,   /* a varint is longer than it needs to be */
+  WB_VARINT_PADDED = 25,   /* a varint is padded: it has more than one byte and ends on 0 */
   WB_BYTES_AFTER_BODY = 26 /* bytes follow the body */
 } wb_refusal;
 
@@ -99,8 +100,8 @@ size_t wb_varint_len(int64_t value);
 
 /* ---- varints ---- */
 
-/* Reads the varint at `at`, which may lie behind the end. *next_or_offset becomes the place after it; *unpadded, whether it is as
- * short as it can be, which strict reading asks. Refusals: 6, 7, and then *value is 0 and *unpadded false. */
+/* Reads the varint at `at`, which may lie behind the end. *next_or_offset becomes the place after it; *unpadded, whether it has one
+ * byte or its last byte is not 0, which strict reading asks. Refusals: 6, 7, and then *value is 0 and *unpadded false. */
 uint32_t wb_read_uvarint(const uint8_t *bytes, size_t size, size_t at, uint64_t *value, bool *unpadded, size_t *next_or_offset);
 uint32_t wb_read_varint(const uint8_t *bytes, size_t size, size_t at, int64_t *value, bool *unpadded, size_t *next_or_offset);
 
@@ -121,18 +122,20 @@ uint32_t wb_unpack(const uint8_t *bytes, size_t size, uint32_t width, size_t cou
 
 /* ---- chunks ---- */
 
-/* Writes a column in an encoding, a wb_encoding, to the front of `out`. As many bytes as wb_estimate_sizes and wb_analyze tell are
- * always enough. Only Dictionary uses the scratch: it needs min(count, 16384) places, the others none.
+/* Writes a column in an encoding, a wb_encoding, to the front of `out`. As many bytes as wb_estimate_sizes or wb_analyze tells for an
+ * available encoding are always enough. (DeltaBinaryPacked of fewer than two keys is not available, and yet written: 16 bytes are
+ * enough.) Only Dictionary uses the scratch: it needs min(count, 16384) places, the others none. It leaves the distinct keys there, as
+ * the calls for statistics do, also where 23 or 20 refuses; 2, 21 and 22 leave the scratch as it was.
  * Refusals: 2, 21, (Dictionary: 22, 23), 20. */
 uint32_t wb_encode_integers(
     const int64_t *column, size_t count, uint32_t encoding, int64_t *scratch, size_t places, uint8_t *out, size_t size, size_t *count_or_offset);
 
-/* Reads a chunk, of the encoding that its first byte says, to the front of `column`. Strict reading also refuses varints that are
- * longer than they need to be, and bytes after the body. Refusals: 1 to 19, (strict: 25, 26), and last of all 20, with the count of
- * keys: with no room at all a call says how many keys a chunk has, or why it is refused. */
+/* Reads a chunk, of the encoding that its first byte says, to the front of `column`. Strict reading also refuses padded varints, which
+ * have more than one byte and end on 0, and bytes after the body. Refusals: 1 to 3, 5 to 19, (strict: 25, 26), and last of all 20, with
+ * the count of keys: with no room at all a call says how many keys a chunk has, or why it is refused. */
 uint32_t wb_decode_integers(const uint8_t *chunk, size_t size, bool strict, int64_t *column, size_t room, size_t *count_or_offset);
 
-/* The same, where the chunk must be of the encoding that is named, a wb_encoding. */
+/* The same, where the chunk must be of the encoding that is named, a wb_encoding: else it is refused with 4. */
 uint32_t wb_decode_named(
     const uint8_t *chunk, size_t size, uint32_t encoding, bool strict, int64_t *column, size_t room, size_t *count_or_offset);
 

@@ -14,47 +14,48 @@ static void is(const char *name, uint64_t found, uint64_t wanted) {
   faults++;
 }
 
-/* 5, 5, -3, 10 have the ZigZags 10, 10, 5, 20, three runs, and the deltas 0, -8, 13. */
-static const int64_t column[] = {5, 5, -3, 10};
-#define KEYS 4
+/* Five runs; the ZigZags are 200, 5, 14 and 2000, in varints of two bytes, one, one and two; the deltas are 0, -103, 10, 993 and -900. So no
+ * two fields of the statistics are equal, and one that stood in another's place would be seen. */
+static const int64_t column[] = {100, 100, 100, 100, -3, -3, 7, 1000, 100};
+#define KEYS 9
+#define DISTINCT 4
 
 static void check_stats(const wb_stats *stats) {
   is("count", stats->count, KEYS);
-  is("first", (uint64_t)stats->first, 5);
+  is("first", (uint64_t)stats->first, 100);
   is("min", (uint64_t)stats->min, (uint64_t)-3);
-  is("max", (uint64_t)stats->max, 10);
-  is("run_count", stats->run_count, 3);
+  is("max", (uint64_t)stats->max, 1000);
+  is("run_count", stats->run_count, 5);
   is("sortedness", stats->sortedness, WB_UNSORTED);
-  is("cardinality", stats->cardinality, 3);
+  is("cardinality", stats->cardinality, DISTINCT);
   is("cardinality_is_exact", stats->cardinality_is_exact, 1);
-  is("value_span", stats->value_span, 13);
-  is("max_zigzag", stats->max_zigzag, 20);
-  is("varint_body_bytes", stats->varint_body_bytes, 4);
-  is("run_length_body_bytes", stats->run_length_body_bytes, 6);
-  is("delta_min", (uint64_t)stats->delta_min, (uint64_t)-8);
-  is("delta_max", (uint64_t)stats->delta_max, 13);
-  is("delta_span", stats->delta_span, 21);
+  is("value_span", stats->value_span, 1003);
+  is("max_zigzag", stats->max_zigzag, 2000);
+  is("varint_body_bytes", stats->varint_body_bytes, 15);
+  is("run_length_body_bytes", stats->run_length_body_bytes, 13);
+  is("delta_min", (uint64_t)stats->delta_min, (uint64_t)-900);
+  is("delta_max", (uint64_t)stats->delta_max, 993);
+  is("delta_span", stats->delta_span, 1893);
 }
 
-/* Behind a header of three bytes: 4 keys of 8 bytes; 4 varints of one; a width and 4 times 5 bits; the least key, a width and 4 times 4
- * bits; a total and 3 runs of two bytes; a total, 3 entries of one byte, a width and 4 times 2 bits; the first key, a block size of two
- * bytes, a least delta, a width and 3 times 5 bits. */
+/* Behind a header of three bytes: 9 keys of 8 bytes; 15 bytes of varints; a width and 9 times 11 bits; the least key, a width and 9 times 10
+ * bits; a total and the runs; a total, an entry and gaps of one, one, one and two bytes, a width and 9 times 2 bits; the first key in two
+ * bytes, a block size in two, a least delta charged two, a width and 8 times 11 bits. */
 static void check_estimates(const wb_estimates *estimates) {
-  static const uint64_t lengths[WB_ENCODINGS] = {35, 7, 7, 14, 10, 9, 10};
+  static const uint64_t lengths[WB_ENCODINGS] = {75, 18, 17, 24, 17, 13, 21};
   for (int place = 0; place < WB_ENCODINGS; place++) {
     is("length", estimates->lengths[place], lengths[place]);
     is("available", estimates->available[place], 1);
   }
 }
 
-/* BitPacked is as short as Varint, and read faster. */
 static void check_plan(const wb_plan *plan) {
-  is("encoding", plan->encoding, WB_BIT_PACKED);
-  is("estimated_bytes", plan->estimated_bytes, 7);
-  is("plain_bytes", plan->plain_bytes, 35);
+  is("encoding", plan->encoding, WB_DICTIONARY);
+  is("estimated_bytes", plan->estimated_bytes, 13);
+  is("plain_bytes", plan->plain_bytes, 75);
   is("reason", plan->reason, WB_SMALLEST_ESTIMATE);
-  is("run_density is 0.75", plan->run_density == 0.75, 1);
-  is("estimated_ratio is 5.0", plan->estimated_ratio == 5.0, 1);
+  is("run_density is 5 by 9", plan->run_density == 5.0 / 9.0, 1);
+  is("estimated_ratio is 75 by 13", plan->estimated_ratio == 75.0 / 13.0, 1);
   check_estimates(&plan->estimates);
 }
 
@@ -65,7 +66,7 @@ int main(void) {
   wb_plan plan;
   size_t distinct;
   is("answer", wb_analyze_integers(column, KEYS, scratch, KEYS, &stats, &distinct), WB_ACCEPTED);
-  is("distinct keys", distinct, 3);
+  is("distinct keys", distinct, DISTINCT);
   check_stats(&stats);
   is("answer", wb_estimate_sizes(column, KEYS, scratch, KEYS, &stats, &estimates, &distinct), WB_ACCEPTED);
   check_stats(&stats);
@@ -73,7 +74,7 @@ int main(void) {
   is("answer", wb_analyze(column, KEYS, 6, scratch, KEYS, &plan, &distinct), WB_ACCEPTED);
   check_plan(&plan);
   is("answer", wb_distinct_values(column, KEYS, scratch, KEYS, &distinct), WB_ACCEPTED);
-  is("distinct keys", distinct, 3);
+  is("distinct keys", distinct, DISTINCT);
   is("least distinct key", (uint64_t)scratch[0], (uint64_t)-3);
   puts(faults == 0 ? "every field of the records is as worked out by hand" : "the header's records are WRONG");
   return faults == 0 ? 0 : 1;

@@ -2,8 +2,7 @@
 -- field is its residue modulo 2^64, an f64 its bits, an enum its place among the variants, a bool 1 or 0.
 use Prim.Native.Nat.{ℕ}
 use mathlib.Core.Bool.{Bool, cond}
-use mathlib.Core.List.{List, [], _∷_, _++_}
-use mathlib.Core.List.{map}
+use mathlib.Core.List.{List, [], _∷_, _++_, map}
 use lib.Ieee.{Float, binary64, eq, toBits}
 use Rattle.format.specs.Keys.{residue}
 use Rattle.format.specs.Encodings.{idOf, encodings}

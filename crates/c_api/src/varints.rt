@@ -1,8 +1,7 @@
 // Varints, read at a place and written to the front of a buffer.
 ghost use mathlib.Core.Path.{_≡_};
 ghost use lib.ListN.{length};
-ghost use Rattle.format.specs.Standalone.{uvarintAnswer, varintAnswer};
-ghost use Rattle.format.specs.Standalone.{uvarintWriteAnswer, uvarintWriteOutput, varintWriteAnswer, varintWriteOutput};
+ghost use Rattle.format.specs.Standalone.{uvarintAnswer, varintAnswer, uvarintWriteAnswer, uvarintWriteOutput, varintWriteAnswer, varintWriteOutput};
 ghost use Rattle.c_api.specs.Told.{told, uvarintTold, varintTold};
 use crate::number_of;
 use crate::place_of;
