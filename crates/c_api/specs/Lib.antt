@@ -1,3 +1,2 @@
--- What the contracts of `c_api` cite beside the definitions of `format`: how an answer and a record reach a caller in C.
+-- What the contracts of `c_api` cite beside the definitions of `format`: how an answer reaches a caller in C.
 pub mod Told
-pub mod Records

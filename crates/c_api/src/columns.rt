@@ -6,14 +6,14 @@ ghost use Rattle.format.specs.Statistics.{statsAnswer, analysisScratch, distinc
 ghost use Rattle.format.specs.Estimates.{estimatesAnswer};
 ghost use Rattle.format.specs.Plan.{planAnswer, planScratch};
 ghost use Rattle.plan.specs.Gain.{levelGain};
-ghost use Rattle.c_api.specs.Records.{statsRow, estimatesRow, planRow};
+ghost use Rattle.rows.specs.Rows.{statsRow, estimatesRow, planRow};
 ghost use Rattle.c_api.specs.Told.{told, keptNumber, keptCount};
 use crate::number_of;
 use crate::place_of;
-use crate::records::estimates_row;
-use crate::records::plan_row;
-use crate::records::stats_row;
 use format::Answer;
+use rows::estimates_row;
+use rows::plan_row;
+use rows::stats_row;
 
 // The statistics of a column; the scratch's front has its distinct values.
 #[no_mangle]

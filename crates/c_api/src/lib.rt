@@ -3,7 +3,7 @@
 //
 // A caller in C passes a slice as two arguments, a pointer and a count of elements, and `&mut usize` as a pointer. An enum does not
 // cross `extern "C"`: of an answer the number is returned, and the count or the offset is stored through the last pointer. Nor is a
-// pointer to a struct a form that the borrow checker covers, so a record is a row of 64-bit numbers here and a struct in the header.
+// pointer to a struct a form that the borrow checker covers, so a record is a row of 64-bit numbers here (`rows`) and a struct in the header.
 ghost use mathlib.Core.Path.{_≡_};
 ghost use Rattle.c_api.specs.Told.{told};
 use format::Answer;
@@ -12,7 +12,6 @@ pub mod chunks;
 pub mod columns;
 pub mod numbers;
 pub mod packing;
-pub(crate) mod records;
 pub mod varints;
 
 // An answer's number: 0 where it is accepted.

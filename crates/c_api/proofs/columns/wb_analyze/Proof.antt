@@ -1,7 +1,7 @@
 -- `wb_analyze` meets its contract: it tells what `analyze` answers, and stores the record as a row.
 use mathlib.Core.Path.{ap, _∙_}
 use borrow.Author.Needs.{needs}
-use Rattle.c_api.specs.Records.{planRow}
+use Rattle.rows.specs.Rows.{planRow}
 use Rattle.c_api.proofs.Telling.{telling}
 use Rattle.c_api.proofs.columns.wb_analyze.Statement.{statement}
 use Rattle.c_api.proofs.columns.wb_analyze.Tie as tie

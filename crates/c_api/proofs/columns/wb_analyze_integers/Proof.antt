@@ -1,7 +1,7 @@
 -- `wb_analyze_integers` meets its contract: it tells what `analyze_integers` answers, and stores the record as a row.
 use mathlib.Core.Path.{ap, _∙_}
 use borrow.Author.Needs.{needs}
-use Rattle.c_api.specs.Records.{statsRow}
+use Rattle.rows.specs.Rows.{statsRow}
 use Rattle.c_api.proofs.Telling.{telling}
 use Rattle.c_api.proofs.columns.wb_analyze_integers.Statement.{statement}
 use Rattle.c_api.proofs.columns.wb_analyze_integers.Tie as tie

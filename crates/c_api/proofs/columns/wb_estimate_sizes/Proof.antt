@@ -2,7 +2,7 @@
 use mathlib.Core.Path.{ap, _∙_}
 use borrow.Author.Needs.{needs}
 use Rattle.estimates.specs.Survey.{surveyOf}
-use Rattle.c_api.specs.Records.{statsRow, estimatesRow}
+use Rattle.rows.specs.Rows.{statsRow, estimatesRow}
 use Rattle.c_api.proofs.Telling.{telling}
 use Rattle.c_api.proofs.columns.wb_estimate_sizes.Statement.{statement}
 use Rattle.c_api.proofs.columns.wb_estimate_sizes.Tie as tie

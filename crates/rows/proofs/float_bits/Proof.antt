@@ -1,10 +1,10 @@
--- `records::float_bits` meets its contract: a number that is equal to itself is one, and has bits.
+-- `float_bits` meets its contract: a number that is equal to itself is one, and has bits.
 use mathlib.Core.Path.{_≡_}
 use mathlib.Core.Bool.{true, not, false≢true}
 use lib.Dec.{T}
 use lib.Ieee.{Float, nan, inf, fin, isNan, eq}
-use Rattle.c_api.proofs.records.float_bits.Statement.{statement}
-use Rattle.c_api.proofs.records.float_bits.Tie as tie
+use Rattle.rows.proofs.float_bits.Statement.{statement}
+use Rattle.rows.proofs.float_bits.Tie as tie
 
 a-number : (x : Float) → eq x x ≡ true → T (not (isNan x))
 unfolding eq isNan

@@ -1,10 +1,10 @@
--- `records::stats_row` meets its contract, field by field. The signed fields are keys, read back from their bits.
+-- `stats_row` meets its contract, field by field. The signed fields are keys, read back from their bits.
 use mathlib.Core.Path.{ap, _∙_}
 use borrow.Author.Needs.{needs}
 use Rattle.format.specs.Keys.{residue}
 use Rattle.number.proofs.Signed.{held}
-use Rattle.c_api.proofs.records.stats_row.Statement.{statement}
-use Rattle.c_api.proofs.records.stats_row.Tie as tie
+use Rattle.rows.proofs.stats_row.Statement.{statement}
+use Rattle.rows.proofs.stats_row.Tie as tie
 
 returns : tie.Need-returns
 returns c =

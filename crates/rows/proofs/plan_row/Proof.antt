@@ -1,8 +1,8 @@
--- `records::plan_row` meets its contract, place by place.
+-- `plan_row` meets its contract, place by place.
 use borrow.Author.Needs.{needs}
 use Rattle.format.specs.Encodings.{encodings}
-use Rattle.c_api.proofs.records.plan_row.Statement.{statement}
-use Rattle.c_api.proofs.records.plan_row.Tie as tie
+use Rattle.rows.proofs.plan_row.Statement.{statement}
+use Rattle.rows.proofs.plan_row.Tie as tie
 
 returns : tie.Need-returns
 unfolding encodings

@@ -1,13 +1,13 @@
--- `records::flag` meets its contract: true is 1 and false 0.
+-- `flag` meets its contract: true is 1 and false 0.
 use mathlib.Core.Path.{_≡_, refl}
 use mathlib.Core.Bool.{Bool, true, false}
 use mir.Val.{boolByte}
 use borrow.Author.Needs.{needs}
-use Rattle.c_api.specs.Records as Records
-use Rattle.c_api.proofs.records.flag.Statement.{statement}
-use Rattle.c_api.proofs.records.flag.Tie as tie
+use Rattle.rows.specs.Rows as Rows
+use Rattle.rows.proofs.flag.Statement.{statement}
+use Rattle.rows.proofs.flag.Tie as tie
 
-one-or-none : (b : Bool) → boolByte b ≡ Records.flag b
+one-or-none : (b : Bool) → boolByte b ≡ Rows.flag b
 one-or-none false = refl
 one-or-none true = refl
 

@@ -1,9 +1,9 @@
--- `records::estimates_row` meets its contract, place by place.
+-- `estimates_row` meets its contract, place by place.
 use borrow.Author.Needs.{needs}
 use Rattle.format.specs.Encodings.{encodings}
 use Rattle.format.specs.Estimates.{lengthIn, availableIn}
-use Rattle.c_api.proofs.records.estimates_row.Statement.{statement}
-use Rattle.c_api.proofs.records.estimates_row.Tie as tie
+use Rattle.rows.proofs.estimates_row.Statement.{statement}
+use Rattle.rows.proofs.estimates_row.Tie as tie
 
 returns : tie.Need-returns
 unfolding encodings lengthIn availableIn

@@ -1,8 +1,9 @@
-// The records as rows of 64-bit numbers, in the order of the header's structs.
+// The records as rows of 64-bit numbers, for the C interface: in the order of the fields of the structs in include/warpboulder.h. They stand
+// in a crate of their own, below `c_api`, so that an edit of a row is checked without the codecs.
 ghost use mathlib.Core.Path.{_≡_};
 ghost use Rattle.format.specs.Estimates.{isExact};
-ghost use Rattle.c_api.specs.Records.{sortednessNumber, cardinalityCount, reasonNumber};
-ghost use Rattle.c_api.specs.Records as Records;
+ghost use Rattle.rows.specs.Rows.{sortednessNumber, cardinalityCount, reasonNumber};
+ghost use Rattle.rows.specs.Rows as Rows;
 use format::Cardinality;
 use format::EncodingPlan;
 use format::IntegerStats;
@@ -35,7 +36,7 @@ fn cardinality_count(cardinality: Cardinality) -> u64
 
 // Whether it is the first.
 fn cardinality_is_exact(cardinality: Cardinality) -> u64
-    ensures { λ r. ⌜ r ≡ Records.flag (isExact cardinality) ⌝ }
+    ensures { λ r. ⌜ r ≡ Rows.flag (isExact cardinality) ⌝ }
 {
     match cardinality {
         Cardinality::Exact(_) => 1,
@@ -56,14 +57,14 @@ fn reason_number(reason: PlanReason) -> u64
 
 // A bool: 1 or 0.
 fn flag(b: bool) -> u64
-    ensures { λ r. ⌜ r ≡ Records.flag b ⌝ }
+    ensures { λ r. ⌜ r ≡ Rows.flag b ⌝ }
 {
     b as u64
 }
 
 // An f64: its bits. What is not a number, and so not equal to itself, has none that could be asked, and a plan has no such field.
 fn float_bits(x: f64) -> u64
-    ensures { λ r. ⌜ r ≡ Records.floatBits x ⌝ }
+    ensures { λ r. ⌜ r ≡ Rows.floatBits x ⌝ }
 {
     if x == x {
         return f64::to_bits(x);
@@ -72,8 +73,8 @@ fn float_bits(x: f64) -> u64
 }
 
 // `wb_stats`.
-pub(crate) fn stats_row(stats: IntegerStats) -> [u64; 15]
-    ensures { λ r. ⌜ r ≡ Records.statsRow stats ⌝ }
+pub fn stats_row(stats: IntegerStats) -> [u64; 15]
+    ensures { λ r. ⌜ r ≡ Rows.statsRow stats ⌝ }
 {
     let sortedness = stats.sortedness;
     let cardinality = stats.cardinality;
@@ -97,8 +98,8 @@ pub(crate) fn stats_row(stats: IntegerStats) -> [u64; 15]
 }
 
 // `wb_estimates`.
-pub(crate) fn estimates_row(estimates: SizeEstimates) -> [u64; 14]
-    ensures { λ r. ⌜ r ≡ Records.estimatesRow estimates ⌝ }
+pub fn estimates_row(estimates: SizeEstimates) -> [u64; 14]
+    ensures { λ r. ⌜ r ≡ Rows.estimatesRow estimates ⌝ }
 {
     let lengths = estimates.lengths;
     let available = estimates.available;
@@ -121,8 +122,8 @@ pub(crate) fn estimates_row(estimates: SizeEstimates) -> [u64; 14]
 }
 
 // `wb_plan`, which ends with a `wb_estimates`.
-pub(crate) fn plan_row(plan: EncodingPlan) -> [u64; 20]
-    ensures { λ r. ⌜ r ≡ Records.planRow plan ⌝ }
+pub fn plan_row(plan: EncodingPlan) -> [u64; 20]
+    ensures { λ r. ⌜ r ≡ Rows.planRow plan ⌝ }
 {
     let encoding = plan.encoding;
     let reason = plan.reason;

@@ -1,0 +1,2 @@
+-- What the contracts of `rows` cite: the records as rows of numbers.
+pub mod Rows
