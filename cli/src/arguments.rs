@@ -20,6 +20,7 @@ pub struct Flag {
 pub const HELP: Flag = Flag { name: "--help", short: Some("-h"), takes: None };
 pub const FROM: Flag = Flag { name: "--from", short: None, takes: Some("text, csv or binary") };
 pub const COLUMN: Flag = Flag { name: "--column", short: None, takes: Some("the name or the number of a CSV column") };
+pub const HEADER: Flag = Flag { name: "--header", short: None, takes: Some("yes or no") };
 pub const LEVEL: Flag = Flag { name: "--level", short: None, takes: Some("a number from 0 to 9") };
 pub const ENCODING: Flag = Flag { name: "--encoding", short: None, takes: Some("the name of an encoding") };
 pub const OUTPUT: Flag = Flag { name: "--output", short: Some("-o"), takes: Some("a file, or - for standard output") };

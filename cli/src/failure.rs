@@ -12,24 +12,23 @@ pub enum Failure {
     Failed(String),
     /// The report that the command printed says that the chunk is refused, so nothing is left to say.
     Reported,
-    /// Whoever read the output has closed it, as `head` does: nobody is left to tell.
-    ClosedPipe,
+    /// Whoever read the output closed it before all was written; the sentence says so.
+    ClosedPipe(String),
 }
 
 impl Failure {
     /// What to say on standard error, if anything.
     pub fn sentence(&self) -> Option<&str> {
         match self {
-            Failure::Usage(sentence) | Failure::Failed(sentence) => Some(sentence),
-            Failure::Reported | Failure::ClosedPipe => None,
+            Failure::Usage(sentence) | Failure::Failed(sentence) | Failure::ClosedPipe(sentence) => Some(sentence),
+            Failure::Reported => None,
         }
     }
 
     pub fn exit_code(&self) -> ExitCode {
         match self {
             Failure::Usage(_) => ExitCode::from(2),
-            Failure::Failed(_) | Failure::Reported => ExitCode::from(1),
-            Failure::ClosedPipe => ExitCode::SUCCESS,
+            Failure::Failed(_) | Failure::Reported | Failure::ClosedPipe(_) => ExitCode::from(1),
         }
     }
 }

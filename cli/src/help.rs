@@ -6,13 +6,20 @@ macro_rules! keys_help {
         "\
 FILE holds signed 64-bit keys, 16,777,216 at most; '-' is standard input.
   text    one key a line; blank lines and lines that begin with # are skipped
-  CSV     one column; the first row is skipped if it names the columns
+  CSV     one column; blank lines are skipped, fields may stand in \"quotes\",
+          and all rows have as many fields; the first row is skipped if it
+          names the columns (see --header)
   binary  8 bytes a key, little-endian
 The ending says which: .csv is CSV, .bin and .i64 are binary, others are text.
 
   --from text|csv|binary  how the keys are written, whatever the ending says
   --column NAME|NUMBER    the column of a CSV file: its name, or its number
                           from 1
+  --header yes|no         whether the first row of a CSV file names the
+                          columns; unless told, it does where --column gives
+                          a name, or where the column's field begins with a
+                          letter or _; a table of text and keys without a
+                          header needs --header no
 "
     };
 }
@@ -65,6 +72,7 @@ Exit status: 0 done, 1 refused or failed, 2 wrong usage.
 pub const PLAN: &str = concat!(
     "\
 warpboulder plan FILE [--level 0-9] [--from FORMAT] [--column COLUMN]
+                 [--header yes|no]
 
 Shows how long the column's chunk is in each of the seven encodings, which one
 is chosen, and why.
@@ -86,7 +94,7 @@ is chosen, and why.
 pub const PACK: &str = concat!(
     "\
 warpboulder pack FILE [-o OUT] [--level 0-9 | --encoding NAME] [--force]
-                 [--from FORMAT] [--column COLUMN]
+                 [--from FORMAT] [--column COLUMN] [--header yes|no]
 
 Writes the column as one chunk, in the encoding that 'plan' chooses or in the
 one named. The chunk is read back and compared with the keys before it is put
@@ -99,7 +107,8 @@ in place.
   --encoding NAME         do not plan, but pack as NAME, which is
 ",
     encodings_help!(),
-    "  --force                 replace FILE.wb if it exists
+    "  --force                 replace FILE.wb if it exists, or FILE itself if OUT is
+                          the same file
   -h, --help              this text
 
 ",
@@ -114,7 +123,7 @@ in place.
 pub const UNPACK: &str = concat!(
     "\
 warpboulder unpack CHUNK [-o OUT] [--to text|binary] [--strict]
-                   [--encoding NAME]
+                   [--encoding NAME] [--force]
 
 Writes the keys of a chunk, or nothing where the chunk is refused. '-' is
 standard input.
@@ -125,7 +134,8 @@ standard input.
                           binary where OUT ends in .bin or .i64, else text
 ",
     reading_help!(),
-    "  -h, --help              this text
+    "  --force                 replace CHUNK itself if OUT is the same file
+  -h, --help              this text
 
   warpboulder unpack keys.wb | head
   warpboulder unpack keys.wb -o keys.bin
@@ -162,7 +172,7 @@ the number, the offset and the meaning of the refusal. The exit status is 0 or
 
 pub const STATS: &str = concat!(
     "\
-warpboulder stats FILE [--from FORMAT] [--column COLUMN]
+warpboulder stats FILE [--from FORMAT] [--column COLUMN] [--header yes|no]
 
 Shows the statistics of the column: its ends and order, its distinct keys, runs
 and deltas, and how long it is as varints and as runs.

@@ -5,6 +5,7 @@ use std::io::{self, Read};
 use std::path::{Path, PathBuf};
 
 use crate::failure::{system_reason, Failure};
+use crate::identity::{self, Identity};
 use crate::progress::{Counted, Progress};
 use crate::wording;
 
@@ -35,6 +36,14 @@ impl Input {
         match self {
             Input::Standard => "standard input".to_string(),
             Input::File(path) => wording::path(path),
+        }
+    }
+
+    /// Which regular file it is, if it is one.
+    pub fn identity(&self) -> Option<Identity> {
+        match self {
+            Input::Standard => identity::of_stream(io::stdin()),
+            Input::File(path) => identity::of_metadata(&fs::metadata(path).ok()?),
         }
     }
 

@@ -6,6 +6,7 @@ mod chunk_file;
 mod commands;
 mod failure;
 mod help;
+mod identity;
 mod input;
 mod keys;
 mod layout;
@@ -22,13 +23,14 @@ mod wording;
 use std::env;
 use std::ffi::OsString;
 use std::io::{self, Write};
+use std::os::unix::ffi::OsStrExt;
 use std::process::ExitCode;
 
 use arguments::{usage, Arguments, HELP};
 use commands::{Command, COMMANDS};
 use failure::Failure;
 use output::print;
-use wording::listed;
+use wording::{listed, quoted};
 
 fn main() -> ExitCode {
     let words: Vec<OsString> = env::args_os().skip(1).collect();
@@ -73,7 +75,7 @@ fn help_for(words: &[OsString]) -> Result<String, Failure> {
 }
 
 fn find_command(word: &OsString) -> Result<&'static Command, Failure> {
-    let unknown = || usage(format!("there is no command {}; give {}.", options::shown(word), command_names()));
+    let unknown = || usage(format!("there is no command {}; give {}.", quoted(word.as_bytes()), command_names()));
     COMMANDS.iter().find(|command| word == command.name).ok_or_else(unknown)
 }
 

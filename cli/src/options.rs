@@ -7,7 +7,7 @@ use std::path::Path;
 
 use warpboulder::{CompressionLevel, Encoding};
 
-use crate::arguments::{usage, Arguments, COLUMN, ENCODING, FROM, LEVEL, OUTPUT};
+use crate::arguments::{usage, Arguments, COLUMN, ENCODING, FROM, HEADER, LEVEL, OUTPUT};
 use crate::failure::Failure;
 use crate::input::Input;
 use crate::keys::{Format, Selector, Source};
@@ -19,16 +19,30 @@ pub fn chunk_input(command: &str, arguments: &Arguments) -> Result<Input, Failur
     operand(command, arguments, "a CHUNK").map(Input::of_operand)
 }
 
-/// The keys that a command reads: `--from` says how they are written; else `--column` says that it is CSV; else the ending tells.
+/// The keys that a command reads: `--from` says how they are written; else `--column` or `--header` says that it is CSV; else the
+/// ending tells.
 pub fn key_source(command: &str, arguments: &Arguments) -> Result<Source, Failure> {
     let path = operand(command, arguments, "a FILE of keys")?;
     let format = arguments.value(&FROM).map(format_of_name).transpose()?;
     let selector = arguments.value(&COLUMN).map(selector_of_word).transpose()?;
-    if selector.is_some() && format.is_some_and(|format| format != Format::Csv) {
-        return Err(usage("--column is for CSV files; leave it out or give --from csv.".to_string()));
+    let has_header = arguments.value(&HEADER).map(yes_or_no).transpose()?;
+    let of_csv = [&COLUMN, &HEADER].into_iter().find(|flag| arguments.has(flag));
+    if let (Some(flag), Some(Format::Text | Format::Binary)) = (of_csv, format) {
+        return Err(usage(format!("{} is for CSV files; leave it out or give --from csv.", flag.name)));
     }
-    let of_ending = || if selector.is_some() { Format::Csv } else { Format::of_ending(path) };
-    Ok(Source { input: Input::of_operand(path), format: format.unwrap_or_else(of_ending), selector })
+    if matches!((&selector, has_header), (Some(Selector::Name(_)), Some(false))) {
+        return Err(usage("without a header no column has a name; give --column NUMBER, or --header yes.".to_string()));
+    }
+    let of_ending = || if of_csv.is_some() { Format::Csv } else { Format::of_ending(path) };
+    Ok(Source { input: Input::of_operand(path), format: format.unwrap_or_else(of_ending), selector, has_header })
+}
+
+fn yes_or_no(word: &OsStr) -> Result<bool, Failure> {
+    match word.to_str() {
+        Some("yes") => Ok(true),
+        Some("no") => Ok(false),
+        _ => Err(usage(format!("--header takes yes or no, not {}.", quoted(word.as_bytes())))),
+    }
 }
 
 fn operand<'a>(command: &str, arguments: &'a Arguments, what: &str) -> Result<&'a Path, Failure> {
@@ -42,7 +56,7 @@ fn format_of_name(word: &OsStr) -> Result<Format, Failure> {
         Some("text") => Ok(Format::Text),
         Some("csv") => Ok(Format::Csv),
         Some("binary") => Ok(Format::Binary),
-        _ => Err(usage(format!("--from takes text, csv or binary, not {}.", shown(word)))),
+        _ => Err(usage(format!("--from takes text, csv or binary, not {}.", quoted(word.as_bytes())))),
     }
 }
 
@@ -63,7 +77,7 @@ pub fn level(arguments: &Arguments) -> Result<CompressionLevel, Failure> {
         return Ok(CompressionLevel::default());
     };
     let number = word.to_str().and_then(|text| text.parse().ok());
-    let refusal = || usage(format!("--level takes a number from 0 to 9, not {}.", shown(word)));
+    let refusal = || usage(format!("--level takes a number from 0 to 9, not {}.", quoted(word.as_bytes())));
     number.and_then(CompressionLevel::new).ok_or_else(refusal)
 }
 
@@ -78,7 +92,7 @@ pub fn encoding(arguments: &Arguments) -> Result<Option<Encoding>, Failure> {
             .any(|name| plain_letters(name) == wanted)
     };
     let names = Encoding::ALL.map(Encoding::name);
-    let refusal = || usage(format!("--encoding takes {}, not {}.", listed(&names, "or"), shown(word)));
+    let refusal = || usage(format!("--encoding takes {}, not {}.", listed(&names, "or"), quoted(word.as_bytes())));
     Encoding::ALL.into_iter().find(is_wanted).map(Some).ok_or_else(refusal)
 }
 
@@ -105,10 +119,6 @@ pub fn standard_output_for_bytes(what: &str) -> Result<Output, Failure> {
     Ok(Output::Standard)
 }
 
-pub fn shown(word: &OsStr) -> String {
-    quoted(word.as_bytes())
-}
-
 #[cfg(test)]
 mod tests {
     use super::*;
@@ -116,7 +126,7 @@ mod tests {
 
     fn arguments(words: &[&str]) -> Arguments {
         let words: Vec<OsString> = words.iter().map(OsString::from).collect();
-        Arguments::parse("pack", &[&LEVEL, &ENCODING, &FROM, &COLUMN, &OUTPUT], &words).unwrap()
+        Arguments::parse("pack", &[&LEVEL, &ENCODING, &FROM, &COLUMN, &HEADER, &OUTPUT], &words).unwrap()
     }
 
     #[test]
@@ -155,12 +165,14 @@ mod tests {
             (&["a.csv"][..], Format::Csv),
             (&["a.csv", "--from", "text"], Format::Text),
             (&["-", "--column", "depot"], Format::Csv),
+            (&["-", "--header", "no"], Format::Csv),
             (&["a.bin"], Format::Binary),
             (&["-"], Format::Text),
         ] {
             assert_eq!(key_source("plan", &arguments(words)).unwrap().format, format);
         }
         assert!(key_source("plan", &arguments(&["a", "--column=1", "--from=binary"])).is_err());
+        assert!(key_source("plan", &arguments(&["a", "--header=no", "--from=text"])).is_err());
         assert!(key_source("plan", &arguments(&[])).is_err());
     }
 

@@ -1,14 +1,16 @@
 //! Where bytes go: a file, or standard output.
 //!
 //! A file is written under another name in its folder, and takes its place only when every byte is on the disk. Whatever goes wrong
-//! before that leaves the file that was there, which may be the input itself.
+//! before that leaves the file that was there, which may be the input itself where that is forced.
 
 use std::fs::{self, File, Metadata, OpenOptions};
 use std::io::{self, BufWriter, Write};
-use std::os::fd::AsFd;
+use std::os::fd::{AsFd, OwnedFd};
 use std::path::{Path, PathBuf};
 
 use crate::failure::{system_reason, Failure};
+use crate::identity;
+use crate::input::Input;
 use crate::temporary::Temporary;
 use crate::wording;
 
@@ -28,6 +30,9 @@ pub enum Output {
 enum Place {
     /// Something that is no regular file, as a device or a pipe: it is written as it is.
     Direct,
+    /// The file that standard output or standard error is written to. It is written through that stream: a file that a shell appends
+    /// our output to must not be replaced, and what the stream gets afterwards must stand behind.
+    Stream(OwnedFd),
     New(PathBuf),
     /// A regular file, by its real path, so that a link to it stays.
     Existing(PathBuf, Metadata),
@@ -35,7 +40,16 @@ enum Place {
 
 /// Prints a report.
 pub fn print(report: &str) -> Result<(), Failure> {
-    Output::Standard.write(|writer| writer.write_all(report.as_bytes()))
+    till_closed(Output::Standard.write(|writer| writer.write_all(report.as_bytes())))
+}
+
+/// Takes a closed pipe for an end: whoever reads a text, as `head` does, may have seen enough of it. What is cut without a trace, as a
+/// chunk, must not end so.
+pub fn till_closed(written: Result<(), Failure>) -> Result<(), Failure> {
+    match written {
+        Err(Failure::ClosedPipe(_)) => Ok(()),
+        written => written,
+    }
 }
 
 impl Output {
@@ -56,12 +70,21 @@ impl Output {
         }
     }
 
-    /// Refuses what cannot be written, so that it is said before the work and not after it.
-    pub fn check(&self) -> Result<(), Failure> {
-        match self {
-            Output::Standard => Ok(()),
-            Output::File { path, may_replace } => self.place(path, *may_replace).map(drop),
+    /// Refuses what cannot be written, so that it is said before the work and not after it. So is the input itself unless it is
+    /// forced: a table is more than the one column that would take its place.
+    pub fn check(&self, input: &Input, is_forced: bool) -> Result<(), Failure> {
+        let Output::File { path, may_replace } = self else {
+            return Ok(());
+        };
+        self.place(path, *may_replace)?;
+        let identity = fs::metadata(path).ok().and_then(|metadata| identity::of_metadata(&metadata));
+        if !is_forced && identity.is_some() && identity == input.identity() {
+            return Err(Failure::Failed(format!(
+                "{} is the input itself; give --force to replace it, or another output with -o OUT.",
+                self.name()
+            )));
         }
+        Ok(())
     }
 
     /// Writes what `fill` writes, all of it or, to a file, nothing.
@@ -77,6 +100,7 @@ impl Output {
                 let file = OpenOptions::new().append(true).open(path);
                 file.and_then(|file| filled(&file, fill)).map_err(|error| self.cannot_be_written(&error))
             }
+            Place::Stream(stream) => filled(&File::from(stream), fill).map_err(|error| self.cannot_be_written(&error)),
             Place::New(place) => self.write_and_place(&place, None, fill),
             Place::Existing(place, metadata) => self.write_and_place(&place, Some(&metadata), fill),
         }
@@ -104,6 +128,9 @@ impl Output {
         if !may_replace {
             return Err(self.exists());
         }
+        if let Some(stream) = stream_to(&metadata) {
+            return Ok(Place::Stream(stream));
+        }
         if metadata.permissions().readonly() {
             return refuse("is write-protected; choose another output.");
         }
@@ -119,7 +146,9 @@ impl Output {
 
     fn cannot_be_written(&self, error: &io::Error) -> Failure {
         match error.kind() {
-            io::ErrorKind::BrokenPipe => Failure::ClosedPipe,
+            io::ErrorKind::BrokenPipe => {
+                Failure::ClosedPipe(format!("{} was closed before all was written.", self.name()))
+            }
             _ => Failure::Failed(format!("{} cannot be written: {}.", self.name(), system_reason(error))),
         }
     }
@@ -152,6 +181,14 @@ fn filled(file: &File, fill: impl FnOnce(&mut dyn Write) -> io::Result<()>) -> i
     let mut writer = BufWriter::with_capacity(BUFFER_BYTES, file);
     fill(&mut writer)?;
     writer.flush()
+}
+
+/// Standard output or standard error, where it is written to this regular file.
+fn stream_to(metadata: &Metadata) -> Option<OwnedFd> {
+    let wanted = identity::of_metadata(metadata)?;
+    let (out, err) = (io::stdout(), io::stderr());
+    let stream = [out.as_fd(), err.as_fd()].into_iter().find(|stream| identity::of_stream(stream) == Some(wanted))?;
+    stream.try_clone_to_owned().ok()
 }
 
 fn folder_of(path: &Path) -> &Path {

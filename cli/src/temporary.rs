@@ -1,8 +1,8 @@
 //! A file that is written before it takes the place of another.
 
-use std::fs::{self, File, Metadata, OpenOptions};
+use std::fs::{self, File, Metadata, OpenOptions, Permissions};
 use std::io;
-use std::os::unix::fs::{fchown, MetadataExt, OpenOptionsExt};
+use std::os::unix::fs::{fchown, MetadataExt, OpenOptionsExt, PermissionsExt};
 use std::path::{Path, PathBuf};
 use std::process;
 
@@ -57,14 +57,20 @@ impl Temporary {
 impl Drop for Temporary {
     fn drop(&mut self) {
         if !self.is_renamed {
-            // What cannot be removed has been told of: the output could not be written.
+            // Where this cannot be done, either the output could not be written, which is told, or it is in place and only a second
+            // name stays.
             let _ = fs::remove_file(&self.path);
         }
     }
 }
 
-/// The owner as far as we may give files away, then the mode, which a change of owner may restrict.
+/// The owner and the group as far as we may give files away, then the mode, which a change of owner may restrict. Where the file stays
+/// in our group, the mode must not open it to that group, nor to those whom the other group's rights kept out.
 fn take_over_permissions(file: &File, existing: &Metadata) -> io::Result<()> {
-    let _ = fchown(file, Some(existing.uid()), Some(existing.gid()));
-    file.set_permissions(existing.permissions())
+    let (owner, group) = (Some(existing.uid()), Some(existing.gid()));
+    let mode = match fchown(file, owner, group).or_else(|_| fchown(file, None, group)) {
+        Ok(()) => existing.mode(),
+        Err(_) => existing.mode() & 0o700,
+    };
+    file.set_permissions(Permissions::from_mode(mode))
 }

@@ -28,10 +28,12 @@ pub fn counted(count: usize, one: &str, many: &str) -> String {
     format!("{} {}", grouped(count), if count == 1 { one } else { many })
 }
 
-/// A fraction in percent, with one digit after the point, or more where the first would say nothing: `6.3%`, `0.02%`.
+/// A fraction in percent, with one digit after the point, or more where the first would say nothing: `6.3%`, `0.020%`, `<0.001%`.
 pub fn percent(fraction: f64) -> String {
     let value = fraction * 100.0;
-    if value != 0.0 && value.abs() < 0.1 {
+    if value > 0.0 && value < 0.0005 {
+        "<0.001%".to_string()
+    } else if value != 0.0 && value.abs() < 0.1 {
         format!("{value:.3}%")
     } else {
         format!("{value:.1}%")
@@ -113,6 +115,8 @@ mod tests {
         assert_eq!(percent(0.0625), "6.2%");
         assert_eq!(percent(0.0), "0.0%");
         assert_eq!(percent(0.00012), "0.012%");
+        assert_eq!(percent(0.000005), "0.001%");
+        assert_eq!(percent(0.0000049), "<0.001%");
         assert_eq!(percent(-0.25), "-25.0%");
     }
 

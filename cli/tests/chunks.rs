@@ -134,8 +134,8 @@ fn packed(keys: &[i64], encoding: &str) -> Vec<u8> {
 const BODIES: [&[&str]; 7] = [
     &["3 40 keys 5: 5, 5, 9, -1, ..."],
     &["3 6 keys 5: 5, 5, 9, -1, ..."],
-    &["3 1 width 10 bits", "4 7 packed ZigZags 5: 5, 5, 9, -1, ..."],
-    &["3 8 least key -1", "11 1 width 9 bits", "12 6 packed differences 5: 5, 5, 9, -1, ..."],
+    &["3 1 width 10 bits", "4 7 keys, as packed ZigZags 5: 5, 5, 9, -1, ..."],
+    &["3 8 least key -1", "11 1 width 9 bits", "12 6 keys, as packed differences 5: 5, 5, 9, -1, ..."],
     &["3 1 runs 4", "4 2 run 1 5, 2 times", "6 2 run 2 9, 1 time", "8 2 run 3 -1, 1 time", "10 3 run 4 300, 1 time"],
     &[
         "3 1 entries 4",
@@ -174,6 +174,8 @@ fn inspect_shows_a_refused_chunk_as_far_as_it_goes() {
     let ran = run_with(&["inspect", "-"], &[6, 1, 4, 2, 10, 1, 1, 0, 7]);
     assert_eq!(ran.status, 0);
     has(&ran.text(), &["after the body  1 byte (strict reading refuses them)"]);
+    let ran = run_with(&["inspect", "-"], &[5, 1, 4, 1, 10, 2, 7]);
+    has(&ran.text(), &["after the body  1 byte\n", "The chunk is refused with 16"]);
     let ran = run_with(&["inspect", "-"], &[9, 1, 4]);
     assert_eq!(ran.status, 1);
     has(&ran.text(), &["id        9 which is no encoding of keys", "not read  2 bytes", "refused with 2 at offset 0"]);

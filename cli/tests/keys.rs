@@ -75,12 +75,53 @@ fn the_header_line_is_one_if_it_is_no_number() {
 }
 
 #[test]
+fn a_bad_first_row_is_not_taken_for_a_header() {
+    let folder = folder("bad-first-row");
+    for (contents, column, parts) in [
+        ("12x\n13\n14\n", "1", &["bad.csv, line 1, column 1: \"12x\" is not a whole number."][..]),
+        ("1.5\n2\n", "1", &["line 1, column 1: \"1.5\" is not a whole number."]),
+        ("1e5\n2\n", "1", &["line 1, column 1: \"1e5\" is not a whole number."]),
+        ("\u{2212}7\n2\n", "1", &["line 1, column 1: \"\u{2212}7\" is not a whole number."]),
+        (",5\n3,4\n6,7\n", "1", &["line 1, column 1: there is no key, the field is empty."]),
+        (",0.5\n3,4\n", "1", &["line 1, column 1: there is no key, the field is empty."]),
+        ("99999999999999999999\n2\n", "1", &["line 1, column 1", "is beyond 64 bits"]),
+        ("depot,1.5\nx,2\n", "2", &["line 1, column 2: \"1.5\" is not a whole number."]),
+    ] {
+        run(&["plan", &file(&folder, "bad.csv", contents), "--column", column]).fails(1, parts);
+    }
+    let path = file(&folder, "bad.csv", "key\n5\n");
+    run(&["plan", &path, "--header", "no"]).fails(1, &["line 1, column 1: \"key\" is not a whole number."]);
+}
+
+#[test]
+fn a_header_is_a_name_or_what_is_told() {
+    let folder = folder("told-header");
+    for (contents, options, keys) in [
+        ("id,\u{e4}nderung\n1,5\n", &["--column", "2"][..], "5\n"),
+        ("_id\n5\n", &[], "5\n"),
+        (",name\n5,x\n", &["--column", "1"], "5\n"),
+        ("12x\n13\n", &["--header", "yes"], "13\n"),
+        ("id,2019,2020\n1,5,6\n2,7,8\n", &["--column", "2", "--header", "yes"], "5\n7\n"),
+        ("x,2019\ny,5\n", &["--column", "2", "--header", "no"], "2019\n5\n"),
+        ("2019,2020\n1,5\n", &["--column", "2", "--header", "yes"], "5\n"),
+    ] {
+        assert_eq!(keys_of(&file(&folder, "keys.csv", contents), options), keys, "{contents}");
+    }
+    let path = file(&folder, "years.csv", "id,2019,2020\n1,5,6\n2,7,8\n");
+    run(&["pack", &path, "--column", "2", "-o", "-"])
+        .fails(2, &["years.csv, line 1: column 2 has a number there", "give --header yes or --header no."]);
+    has(&run(&["stats", &sample("parcels.csv"), "--column", "2"]).succeeds().text(), &["column depot: 3,000 keys"]);
+}
+
+#[test]
 fn a_bad_csv_field_is_named_with_its_line_and_column() {
     let folder = folder("bad-csv");
     for (contents, parts) in [
         ("id,depot\n1,10\n2,1o\n", &["bad.csv, line 3, column depot: \"1o\" is not a whole number."][..]),
         ("id,depot\n1,\n", &["line 2, column depot: there is no key, the field is empty."]),
-        ("id,depot\n1,10\n2\n", &["line 3: it has 1 field and so no column depot."]),
+        ("id,depot\n1,10\n2\n", &["bad.csv, line 3: it has 1 field, and the first row has 2."]),
+        ("id,depot\n\n1,10,5\n", &["bad.csv, line 3: it has 3 fields, and the first row has 2."]),
+        ("id,depot\n1,2,345\n", &["bad.csv, line 2: it has 3 fields, and the first row has 2."]),
         ("id,depot\n1,99999999999999999999\n", &["line 2, column depot", "is beyond 64 bits"]),
         ("id,depot\n\"1\"2,5\n", &["line 2: after a closing quotation mark only a comma may follow."]),
         ("id,depot\n1,\"5\n2,6\n", &["line 2: a quotation mark in this row is not closed."]),

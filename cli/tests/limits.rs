@@ -25,7 +25,7 @@ fn a_column_of_the_most_keys_comes_back() {
     assert_eq!(fs::read(&chunk).unwrap(), [3, 1, 0x80, 0x80, 0x80, 0x08, 0]);
     let verdict = run(&["verify", &chunk, "--strict"]).succeeds().text();
     has(&verdict, &["accepted, read strictly: 16,777,216 keys, BitPacked, 7 bytes."]);
-    has(&run(&["inspect", &chunk]).succeeds().text(), &["packed ZigZags  16,777,216: 0, 0, 0, 0, ..."]);
+    has(&run(&["inspect", &chunk]).succeeds().text(), &["keys, as packed ZigZags  16,777,216: 0, 0, 0, 0, ..."]);
     let back = no_file(&folder, "back.bin");
     run(&["unpack", &chunk, "-o", &back]).succeeds();
     let back = fs::read(&back).unwrap();

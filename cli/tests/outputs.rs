@@ -4,7 +4,8 @@ mod common;
 
 use std::fs::{self, File, OpenOptions, Permissions};
 use std::io::Read;
-use std::os::unix::fs::{symlink, PermissionsExt};
+use std::os::unix::fs::{symlink, MetadataExt, PermissionsExt};
+use std::os::unix::process::CommandExt;
 use std::process::{Command, Stdio};
 
 use common::*;
@@ -25,15 +26,25 @@ fn an_output_that_exists_is_replaced_only_if_it_is_named() {
 }
 
 #[test]
-fn the_input_may_be_the_output() {
+fn the_input_may_be_the_output_where_it_is_forced() {
     let folder = folder("in-place");
     let keys = mixed_keys();
     let path = file(&folder, "keys.bin", binary(&keys));
-    run(&["pack", &path, "-o", &path]).succeeds();
-    run(&["verify", &path, "--strict"]).succeeds();
-    run(&["unpack", &path, "-o", &path]).succeeds();
+    let link = no_file(&folder, "link.bin");
+    symlink("keys.bin", &link).unwrap();
+    let refusal = "is the input itself; give --force to replace it, or another output with -o OUT.";
+    run(&["pack", &path, "-o", &path]).fails(1, &["keys.bin ", refusal]);
+    run(&["pack", &path, "-o", &link]).fails(1, &["link.bin ", refusal]);
+    let input = File::open(&path).unwrap();
+    let ran = command(&["pack", "-", "--from", "binary", "-o", &path]).stdin(input).output().unwrap();
+    Ran::of(ran).fails(1, &["keys.bin ", refusal]);
     assert_eq!(fs::read(&path).unwrap(), binary(&keys));
-    assert_eq!(names(&folder), ["keys.bin"]);
+    run(&["pack", &path, "-o", &path, "--force"]).succeeds();
+    run(&["verify", &path, "--strict"]).succeeds();
+    run(&["unpack", &path, "-o", &path]).fails(1, &["keys.bin ", refusal]);
+    run(&["unpack", &path, "-o", &path, "--force"]).succeeds();
+    assert_eq!(fs::read(&path).unwrap(), binary(&keys));
+    assert_eq!(names(&folder), ["keys.bin", "link.bin"]);
 }
 
 #[test]
@@ -48,6 +59,26 @@ fn a_replaced_file_keeps_its_permissions() {
     }
     fs::set_permissions(&out, Permissions::from_mode(0o444)).unwrap();
     run(&["pack", &keys, "-o", &out]).fails(1, &["out.wb is write-protected"]);
+}
+
+/// Only the superuser can run the program as others, so nobody else can test this.
+#[test]
+fn a_file_of_another_owner_is_not_opened_to_another_group() {
+    let folder = folder("owners");
+    let keys = file(&folder, "keys.txt", "1\n2\n");
+    let out = file(&folder, "out.wb", "old");
+    if fs::metadata(&keys).unwrap().uid() != 0 {
+        return;
+    }
+    fs::set_permissions(&folder, Permissions::from_mode(0o777)).unwrap();
+    fs::set_permissions(&out, Permissions::from_mode(0o666)).unwrap();
+    for (group, wanted) in [(0, (0, 0o666)), (65_534, (65_534, 0o600))] {
+        let ran = command(&["pack", &keys, "-o", &out]).uid(65_534).gid(group).output().unwrap();
+        Ran::of(ran).succeeds();
+        let metadata = fs::metadata(&out).unwrap();
+        assert_eq!((metadata.gid(), metadata.mode() & 0o7777), wanted);
+        std::os::unix::fs::chown(&out, Some(0), Some(0)).unwrap();
+    }
 }
 
 #[test]
@@ -139,6 +170,27 @@ fn a_file_that_standard_output_is_appended_to_keeps_its_front() {
 }
 
 #[test]
+fn a_file_behind_standard_error_or_a_link_to_a_stream_keeps_its_front() {
+    let folder = folder("append-by-link");
+    let keys = file(&folder, "keys.txt", "1\n2\n");
+    let chunk = run(&["pack", &keys, "-o", "-"]).succeeds().out;
+    let front = [b"front\n", &chunk[..]].concat();
+    let link = no_file(&folder, "out.lnk");
+    symlink("/dev/stdout", &link).unwrap();
+    let log = file(&folder, "log", "front\n");
+    let appended = || OpenOptions::new().append(true).open(&log).unwrap();
+    Ran::of(command(&["pack", &keys, "-o", &link]).stdout(appended()).output().unwrap()).succeeds();
+    assert_eq!(fs::read(&log).unwrap(), front);
+    fs::write(&log, "front\n").unwrap();
+    Ran::of(command(&["pack", &keys, "-o", "/dev/stderr"]).stderr(appended()).output().unwrap()).succeeds();
+    assert!(fs::read(&log).unwrap().starts_with(&front));
+    // A stream that is not appended to has a place of its own, at which the summary must not be written over the chunk.
+    let begun = File::create(&log).unwrap();
+    Ran::of(command(&["pack", &keys, "-o", "/dev/stderr"]).stderr(begun).output().unwrap()).succeeds();
+    assert!(fs::read(&log).unwrap().starts_with(&chunk));
+}
+
+#[test]
 fn a_standard_output_that_is_not_open_for_writing_is_told() {
     let folder = folder("read-only");
     let keys = file(&folder, "keys.txt", "1\n2\n");
@@ -147,18 +199,30 @@ fn a_standard_output_that_is_not_open_for_writing_is_told() {
 }
 
 #[test]
-fn a_closed_pipe_ends_the_program_quietly() {
+fn a_closed_pipe_is_an_end_for_text_and_a_failure_for_bytes() {
     let folder = folder("closed-pipe");
     let keys: Vec<i64> = (0..100_000).collect();
     let path = file(&folder, "keys.bin", binary(&keys));
     run(&["pack", &path]).succeeds();
     let chunk = format!("{path}.wb");
-    for arguments in [&["unpack", &chunk][..], &["pack", &path, "--encoding", "Plain", "-o", "-"]] {
+    let closed = "warpboulder: standard output was closed before all was written.\n";
+    for (arguments, end) in [
+        (&["unpack", &chunk][..], (0, "")),
+        (&["unpack", &chunk, "--to", "binary"], (1, closed)),
+        (&["pack", &path, "--encoding", "Plain", "-o", "-"], (1, closed)),
+    ] {
         let mut child = command(arguments).stdout(Stdio::piped()).stderr(Stdio::piped()).spawn().unwrap();
         let mut some = [0; 100];
         child.stdout.take().unwrap().read_exact(&mut some).unwrap();
         let ran = Ran::of(child.wait_with_output().unwrap());
-        assert_eq!((ran.status, ran.err.as_str()), (0, ""), "{arguments:?}");
+        assert_eq!((ran.status, ran.err.as_str()), end, "{arguments:?}");
+    }
+    let pipe = no_file(&folder, "pipe");
+    assert!(Command::new("mkfifo").arg(&pipe).status().unwrap().success());
+    for arguments in [&["unpack", &chunk, "-o", &pipe][..], &["pack", &path, "--encoding", "Plain", "-o", &pipe]] {
+        let writer = command(arguments).stdout(Stdio::piped()).stderr(Stdio::piped()).spawn().unwrap();
+        File::open(&pipe).unwrap().read_exact(&mut [0]).unwrap();
+        Ran::of(writer.wait_with_output().unwrap()).fails(1, &["pipe was closed before all was written."]);
     }
 }
 

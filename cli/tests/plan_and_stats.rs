@@ -93,3 +93,11 @@ fn stats_shorten_the_distinct_keys() {
     has(&many, &["16,385 or more", "descending"]);
     has(&run_with(&["stats", "-"], b"").succeeds().text(), &["0 keys", "constant", "distinct keys    0\n"]);
 }
+
+#[test]
+fn stats_tell_nothing_of_what_is_not_there() {
+    for (keys, dashes) in [(&b""[..], 8), (b"7\n", 3), (b"7\n8\n", 0)] {
+        let stats = run_with(&["stats", "-"], keys).succeeds().text();
+        assert_eq!(stats.lines().filter(|line| line.ends_with(" -")).count(), dashes, "{stats}");
+    }
+}

@@ -3,7 +3,7 @@
 //! Value `i` has the bits `i * width` and up, the lowest bit of a byte first, and the spare top bits of the last byte
 //! are zero. Width 0 packs zeros in no bytes at all.
 
-use crate::error::Result;
+use crate::error::{Error, Result};
 use crate::ffi;
 
 /// How many bytes `count` values of `width` bits are packed in.
@@ -17,7 +17,11 @@ use crate::ffi;
 /// ```
 #[track_caller]
 pub fn packed_len(count: usize, width: u32) -> usize {
-    try_packed_len(count, width).unwrap_or_else(|error| panic!("packed_len of {count} values of {width} bits: {error}"))
+    // No closure, in which the caller's place would be lost.
+    match try_packed_len(count, width) {
+        Ok(length) => length,
+        Err(error) => panic!("packed_len of {count} values of {width} bits: {error}"),
+    }
 }
 
 /// How many bytes `count` values of `width` bits are packed in.
@@ -33,7 +37,7 @@ pub fn packed_len(count: usize, width: u32) -> usize {
 /// assert_eq!(try_packed_len(10, 65).unwrap_err().refusal(), Refusal::WidthAbove64);
 /// ```
 pub fn try_packed_len(count: usize, width: u32) -> Result<usize> {
-    ffi::packed_len(count, width)
+    ffi::packed_len(count, width).map_err(Error::of_argument)
 }
 
 /// The least width that holds every number from 0 to `max`: 0 for 0, 64 at most.
@@ -82,7 +86,7 @@ pub fn pack(values: &[u64], width: u32, out: &mut Vec<u8>) -> Result<()> {
 /// ```
 pub fn unpack(bytes: &[u8], width: u32, count: usize) -> Result<Vec<u64>> {
     // Asked first, because no count above the limit may be reserved.
-    try_packed_len(count, width)?;
+    ffi::packed_len(count, width)?;
     let mut values = Vec::with_capacity(count);
     ffi::unpack(bytes, width, count, &mut values)?;
     Ok(values)

@@ -1,6 +1,7 @@
 //! Why a call was refused: the [`Refusal`], and the [`Error`] that says where as well.
 
 use std::fmt;
+use std::hash::{Hash, Hasher};
 
 /// What a call that can be refused returns.
 pub type Result<T, E = Error> = std::result::Result<T, E>;
@@ -114,15 +115,64 @@ impl fmt::Display for Refusal {
 /// assert_eq!((error.number(), error.offset()), (9, 3));
 /// assert_eq!(error.to_string(), "there are fewer than eight bytes for each key (refusal 9 at offset 3)");
 /// ```
-#[derive(Debug, Clone, Copy, PartialEq, Eq, Hash)]
+///
+/// Two errors are equal where their refusals and offsets are.
+#[derive(Debug, Clone, Copy)]
 pub struct Error {
     refusal: Refusal,
     offset: usize,
+    /// The caller's own argument is at fault, though the same refusal may be met in bytes that are read.
+    of_argument: bool,
 }
 
 impl Error {
-    pub(crate) const fn new(refusal: Refusal, offset: usize) -> Error {
-        Error { refusal, offset }
+    /// An error with this refusal and offset, for a [`Codec`](crate::Codec) of your own.
+    /// [`is_corruption`](Error::is_corruption) takes the refusals of reading for ones of bytes that were read.
+    ///
+    /// ```
+    /// use warpboulder::{Codec, Encoding, Error, PlainCodec, Refusal, Result};
+    ///
+    /// /// Plain chunks of no more than 1,000 keys.
+    /// struct ShortCodec;
+    ///
+    /// impl Codec for ShortCodec {
+    ///     type Input = [i64];
+    ///     type Output = Vec<i64>;
+    ///
+    ///     fn encoding(&self) -> Encoding {
+    ///         Encoding::Plain
+    ///     }
+    ///
+    ///     fn encode(&self, keys: &[i64], out: &mut Vec<u8>) -> Result<()> {
+    ///         if keys.len() > 1_000 {
+    ///             return Err(Error::new(Refusal::ColumnAboveLimit, 0));
+    ///         }
+    ///         PlainCodec.encode(keys, out)
+    ///     }
+    ///
+    ///     fn decode(&self, chunk: &[u8]) -> Result<Vec<i64>> {
+    ///         let keys = PlainCodec.decode(chunk)?;
+    ///         if keys.len() > 1_000 {
+    ///             return Err(Error::new(Refusal::CountAboveLimit, 2));
+    ///         }
+    ///         Ok(keys)
+    ///     }
+    /// }
+    ///
+    /// let error = ShortCodec.encode_to_vec(&[7; 1_001]).unwrap_err();
+    /// assert_eq!((error.number(), error.is_corruption()), (21, false));
+    ///
+    /// let error = ShortCodec.decode(&PlainCodec.encode_to_vec(&[7; 1_001])?).unwrap_err();
+    /// assert_eq!((error.number(), error.corruption_offset()), (8, Some(2)));
+    /// # Ok::<(), Error>(())
+    /// ```
+    pub const fn new(refusal: Refusal, offset: usize) -> Error {
+        Error { refusal, offset, of_argument: false }
+    }
+
+    /// The same error, of a call that reads no bytes.
+    pub(crate) const fn of_argument(self) -> Error {
+        Error { of_argument: true, ..self }
     }
 
     /// The reason.
@@ -157,19 +207,23 @@ impl Error {
     }
 
     /// Whether the bytes read are at fault, rather than what the caller asked for: true for the refusals of reading,
-    /// which are 1 to 19, 25 and 26.
+    /// which are 1 to 19, 25 and 26, but false for the width of a call that reads nothing.
     ///
     /// ```
-    /// use warpboulder::{decode_integers, encode_integers, Encoding};
+    /// use warpboulder::{bitpack, decode_integers, encode_integers, Encoding};
     ///
     /// assert!(decode_integers(&[]).unwrap_err().is_corruption());
     ///
     /// let keys: Vec<i64> = (0..16_385).collect();
     /// let error = encode_integers(&keys, Encoding::Dictionary, &mut Vec::new()).unwrap_err();
     /// assert!(!error.is_corruption());
+    ///
+    /// // A width above 64, once beside the bytes that are read and once as the caller's own.
+    /// assert!(bitpack::unpack(&[], 65, 1).unwrap_err().is_corruption());
+    /// assert!(!bitpack::pack(&[1], 65, &mut Vec::new()).unwrap_err().is_corruption());
     /// ```
     pub const fn is_corruption(&self) -> bool {
-        matches!(self.number(), 1..=19 | 25 | 26)
+        !self.of_argument && matches!(self.number(), 1..=19 | 25 | 26)
     }
 
     /// The offset, if the bytes read are at fault.
@@ -184,6 +238,20 @@ impl Error {
         } else {
             None
         }
+    }
+}
+
+impl PartialEq for Error {
+    fn eq(&self, other: &Error) -> bool {
+        (self.refusal, self.offset) == (other.refusal, other.offset)
+    }
+}
+
+impl Eq for Error {}
+
+impl Hash for Error {
+    fn hash<H: Hasher>(&self, state: &mut H) {
+        (self.refusal, self.offset).hash(state);
     }
 }
 

@@ -68,6 +68,32 @@ impl CompressionLevel {
         self.0 > 0
     }
 
+    /// Whether basalt may compress texts and other bytes at this level: from 4 on. This crate has integers alone, and
+    /// does not look at it.
+    ///
+    /// ```
+    /// use warpboulder::CompressionLevel;
+    ///
+    /// assert!(!CompressionLevel::FAST.allows_byte_compression());
+    /// assert!(CompressionLevel::BALANCED.allows_byte_compression());
+    /// ```
+    pub const fn allows_byte_compression(self) -> bool {
+        self.0 >= 4
+    }
+
+    /// Whether basalt is to make exact statistics at this level rather than sampled ones: from 7 on. The statistics of
+    /// this crate are exact at every level, and it does not look at it.
+    ///
+    /// ```
+    /// use warpboulder::CompressionLevel;
+    ///
+    /// assert!(!CompressionLevel::BALANCED.wants_exact_statistics());
+    /// assert!(CompressionLevel::MAX.wants_exact_statistics());
+    /// ```
+    pub const fn wants_exact_statistics(self) -> bool {
+        self.0 >= 7
+    }
+
     /// The fraction of Plain's length that has to be saved before another encoding is taken; 1.0 at level 0, which
     /// takes none.
     ///
@@ -85,5 +111,22 @@ impl CompressionLevel {
 impl Default for CompressionLevel {
     fn default() -> Self {
         CompressionLevel::BALANCED
+    }
+}
+
+#[cfg(test)]
+mod tests {
+    use super::*;
+
+    /// The levels from which basalt says yes. Constants, since basalt's functions can be called in them.
+    #[test]
+    fn byte_compression_and_exact_statistics_begin_where_basalt_has_them() {
+        const _: () = assert!(CompressionLevel::MAX.allows_byte_compression());
+        const _: () = assert!(CompressionLevel::MAX.wants_exact_statistics());
+        for number in 0..=9 {
+            let level = CompressionLevel::new(number).unwrap();
+            assert_eq!(level.allows_byte_compression(), number >= 4);
+            assert_eq!(level.wants_exact_statistics(), number >= 7);
+        }
     }
 }

@@ -57,7 +57,8 @@
 //! Chunks, statistics, estimates and plans are the same, bit for bit. What differs:
 //!
 //! - **Refusals instead of texts.** [`Error`] stands for `BasaltError`, and has a number and an offset in place of an
-//!   object, a region and a text. `is_corruption` and `corruption_offset` are there as before.
+//!   object, a region and a text. [`Error::new`] stands for `BasaltError`'s constructors, such as `corruption` and
+//!   `internal`. `is_corruption` and `corruption_offset` are there as before.
 //! - **Limits.** [`encode_integers`] refuses more than 2^24 keys, which basalt writes and cannot read, and a dictionary
 //!   of more than 16,384 entries. [`bitpack`] refuses more than 2^24 values, and widths above 64 everywhere.
 //! - **Panics, and the `try_` forms.** Where a basalt function returns no `Result`, ours panics above a limit:

@@ -82,7 +82,11 @@ impl EncodingPlan {
 /// ```
 #[track_caller]
 pub fn analyze(values: &[i64], level: CompressionLevel) -> EncodingPlan {
-    try_analyze(values, level).unwrap_or_else(|error| panic!("analyze of {} values: {error}", values.len()))
+    // No closure, in which the caller's place would be lost.
+    match try_analyze(values, level) {
+        Ok(plan) => plan,
+        Err(error) => panic!("analyze of {} values: {error}", values.len()),
+    }
 }
 
 /// Plans a column, as [`analyze`] does.

@@ -144,7 +144,11 @@ impl IntegerStats {
 /// ```
 #[track_caller]
 pub fn analyze_integers(values: &[i64]) -> IntegerStats {
-    try_analyze_integers(values).unwrap_or_else(|error| panic!("analyze_integers of {} values: {error}", values.len()))
+    // No closure, in which the caller's place would be lost.
+    match try_analyze_integers(values) {
+        Ok(stats) => stats,
+        Err(error) => panic!("analyze_integers of {} values: {error}", values.len()),
+    }
 }
 
 /// Collects the statistics of a column, in one pass, and its distinct keys.

@@ -3,7 +3,7 @@
 use std::collections::HashSet;
 
 use warpboulder::{
-    decode_integers, decode_integers_strict, encode_integers, Encoding, Error, Refusal, MAX_CHUNK_ELEMENTS,
+    bitpack, decode_integers, decode_integers_strict, encode_integers, Encoding, Error, Refusal, MAX_CHUNK_ELEMENTS,
 };
 
 #[test]
@@ -87,6 +87,31 @@ fn corruption_is_what_reading_refuses() {
         assert_eq!((error.number(), error.is_corruption()), (number, false));
         assert_eq!(error.corruption_offset(), None);
     }
+}
+
+/// 12 for a width that the caller gave, which says nothing of any bytes; as basalt has it, unpacking reads some.
+#[test]
+fn a_width_of_the_callers_own_is_no_corruption() {
+    let packing = bitpack::pack(&[1], 65, &mut Vec::new()).unwrap_err();
+    let length = bitpack::try_packed_len(1, 65).unwrap_err();
+    let unpacking = bitpack::unpack(&[0; 9], 65, 1).unwrap_err();
+    for (error, corruption) in [(packing, false), (length, false), (unpacking, true)] {
+        assert_eq!(error.refusal(), Refusal::WidthAbove64);
+        assert_eq!(error.is_corruption(), corruption);
+        assert_eq!(error.corruption_offset(), corruption.then_some(0));
+    }
+}
+
+/// Equality and hashes go by refusal and offset, wherever an error is from.
+#[test]
+fn errors_are_equal_by_refusal_and_offset() {
+    let made = Error::new(Refusal::WidthAbove64, 0);
+    assert_eq!(bitpack::try_packed_len(1, 65), Err(made));
+    assert_eq!(bitpack::unpack(&[], 65, 1), Err(made));
+    assert_ne!(made, Error::new(Refusal::WidthAbove64, 1));
+    assert_ne!(made, Error::new(Refusal::PackedCut, 0));
+    let both = HashSet::from([made, bitpack::try_packed_len(1, 65).unwrap_err()]);
+    assert_eq!(both.len(), 1);
 }
 
 #[test]

@@ -7,7 +7,7 @@ mod stats;
 mod unpack;
 mod verify;
 
-use crate::arguments::{Arguments, Flag, COLUMN, ENCODING, FORCE, FROM, HELP, LEVEL, OUTPUT, STRICT, TO};
+use crate::arguments::{Arguments, Flag, COLUMN, ENCODING, FORCE, FROM, HEADER, HELP, LEVEL, OUTPUT, STRICT, TO};
 use crate::failure::Failure;
 use crate::help;
 
@@ -19,17 +19,22 @@ pub struct Command {
 }
 
 pub const COMMANDS: [Command; 6] = [
-    Command { name: "plan", flags: &[&LEVEL, &FROM, &COLUMN, &HELP], help: help::PLAN, run: plan::run },
+    Command { name: "plan", flags: &[&LEVEL, &FROM, &COLUMN, &HEADER, &HELP], help: help::PLAN, run: plan::run },
     Command {
         name: "pack",
-        flags: &[&OUTPUT, &LEVEL, &ENCODING, &FROM, &COLUMN, &FORCE, &HELP],
+        flags: &[&OUTPUT, &LEVEL, &ENCODING, &FROM, &COLUMN, &HEADER, &FORCE, &HELP],
         help: help::PACK,
         run: pack::run,
     },
-    Command { name: "unpack", flags: &[&OUTPUT, &TO, &STRICT, &ENCODING, &HELP], help: help::UNPACK, run: unpack::run },
+    Command {
+        name: "unpack",
+        flags: &[&OUTPUT, &TO, &STRICT, &ENCODING, &FORCE, &HELP],
+        help: help::UNPACK,
+        run: unpack::run,
+    },
     Command { name: "inspect", flags: &[&HELP], help: help::INSPECT, run: inspect::run },
     Command { name: "verify", flags: &[&STRICT, &ENCODING, &HELP], help: help::VERIFY, run: verify::run },
-    Command { name: "stats", flags: &[&FROM, &COLUMN, &HELP], help: help::STATS, run: stats::run },
+    Command { name: "stats", flags: &[&FROM, &COLUMN, &HEADER, &HELP], help: help::STATS, run: stats::run },
 ];
 
 #[cfg(test)]

@@ -30,7 +30,7 @@ pub fn run(arguments: &Arguments) -> Result<(), Failure> {
     let level = options::level(arguments)?;
     let named = options::encoding(arguments)?;
     let output = output(arguments, &source.input)?;
-    output.check()?;
+    output.check(&source.input, arguments.has(&FORCE))?;
     let progress = Progress::start();
     let column = source.read(&progress)?;
     let refused = |error: Error| Failure::Failed(format!("{} is refused: {error}.", column.title));

@@ -35,18 +35,21 @@ fn report(title: &str, stats: &IntegerStats, style: Style) -> String {
 }
 
 fn rows(stats: &IntegerStats) -> Vec<[String; 2]> {
+    // What is told of a key needs one, and a delta needs two.
+    let of_keys = |value: String| if stats.count > 0 { value } else { "-".to_string() };
+    let of_deltas = |value: String| if stats.count > 1 { value } else { "-".to_string() };
     [
-        ("first key", stats.first.to_string()),
-        ("least key", stats.min.to_string()),
-        ("greatest key", stats.max.to_string()),
-        ("span", spanned(stats.value_span)),
+        ("first key", of_keys(stats.first.to_string())),
+        ("least key", of_keys(stats.min.to_string())),
+        ("greatest key", of_keys(stats.max.to_string())),
+        ("span", of_keys(spanned(stats.value_span))),
         ("order", order(stats.sortedness).to_string()),
         ("distinct keys", distinct(stats)),
         ("runs", format!("{} (density {:.4})", grouped(stats.run_count), stats.run_density())),
-        ("greatest ZigZag", spanned(stats.max_zigzag)),
-        ("least delta", grouped(stats.delta_min)),
-        ("greatest delta", grouped(stats.delta_max)),
-        ("span of deltas", spanned(stats.delta_span)),
+        ("greatest ZigZag", of_keys(spanned(stats.max_zigzag))),
+        ("least delta", of_deltas(grouped(stats.delta_min))),
+        ("greatest delta", of_deltas(grouped(stats.delta_max))),
+        ("span of deltas", of_deltas(spanned(stats.delta_span))),
         ("varint body", counted(stats.varint_body_bytes, "byte", "bytes")),
         ("run-length body", counted(stats.run_length_body_bytes, "byte", "bytes")),
     ]

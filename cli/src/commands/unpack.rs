@@ -1,17 +1,18 @@
 //! `unpack`: writes the keys of a chunk as text or as binary.
 
 use std::io::{self, IsTerminal, Write};
+use std::os::unix::ffi::OsStrExt;
 
-use crate::arguments::{usage, Arguments, STRICT, TO};
+use crate::arguments::{usage, Arguments, FORCE, STRICT, TO};
 use crate::chunk_file;
 use crate::failure::Failure;
 use crate::keys::Format;
 use crate::memory;
 use crate::options;
-use crate::output::Output;
+use crate::output::{till_closed, Output};
 use crate::progress::Progress;
 use crate::reading;
-use crate::wording::counted;
+use crate::wording::{counted, quoted};
 
 /// Keys are written in pieces, so that the progress can be told.
 const PIECE_KEYS: usize = 1 << 14;
@@ -26,7 +27,7 @@ pub fn run(arguments: &Arguments) -> Result<(), Failure> {
     let input = options::chunk_input("unpack", arguments)?;
     let encoding = options::encoding(arguments)?;
     let (output, form) = output(arguments)?;
-    output.check()?;
+    output.check(&input, arguments.has(&FORCE))?;
     let mut progress = Progress::start();
     let chunk = chunk_file::read(&input, &progress)?;
     progress.phase("unpacking", None);
@@ -37,7 +38,9 @@ pub fn run(arguments: &Arguments) -> Result<(), Failure> {
         // The keys themselves show how far it is.
         progress.finish();
     }
-    write(&keys, form, &output, &progress)?;
+    let written = write(&keys, form, &output, &progress);
+    let is_for_people = form == Form::Text && output == Output::Standard;
+    if is_for_people { till_closed(written) } else { written }?;
     progress.finish();
     if output != Output::Standard {
         let count = counted(keys.len(), "key", "keys");
@@ -53,7 +56,7 @@ fn output(arguments: &Arguments) -> Result<(Output, Form), Failure> {
     let form = match arguments.value(&TO) {
         Some(word) if word == "text" => Form::Text,
         Some(word) if word == "binary" => Form::Binary,
-        Some(word) => return Err(usage(format!("--to takes text or binary, not {}.", options::shown(word)))),
+        Some(word) => return Err(usage(format!("--to takes text or binary, not {}.", quoted(word.as_bytes())))),
         None => match &named {
             Some(Output::File { path, .. }) if Format::of_ending(path) == Format::Binary => Form::Binary,
             _ => Form::Text,

@@ -53,6 +53,8 @@ pub struct Source {
     pub format: Format,
     /// Only for CSV.
     pub selector: Option<Selector>,
+    /// Only for CSV: whether the first row names the columns, where that is told.
+    pub has_header: Option<bool>,
 }
 
 /// Keys that were read, with what reports call them.
@@ -69,7 +71,7 @@ impl Source {
         match self.format {
             Format::Text => text::read(opened, &mut keys)?,
             Format::Binary => binary::read(opened, &mut keys)?,
-            Format::Csv => title += &csv::read(opened, self.selector.as_ref(), &mut keys)?,
+            Format::Csv => title += &csv::read(opened, self, &mut keys)?,
         }
         Ok(Column { keys: keys.values, title })
     }

@@ -10,7 +10,7 @@ mod runs;
 mod varints;
 mod walk;
 
-use warpboulder::{peek_encoding, Encoding, CODEC_VERSION, MAX_CHUNK_ELEMENTS};
+use warpboulder::{decode_integers, peek_encoding, Encoding, Refusal, CODEC_VERSION, MAX_CHUNK_ELEMENTS};
 
 use crate::wording::{counted, grouped};
 use walk::{Step, Walk};
@@ -22,7 +22,7 @@ pub struct Part {
     pub length: usize,
     pub what: String,
     pub value: String,
-    /// Whether the map cannot go on behind it.
+    /// Whether the chunk is refused for it.
     pub is_fault: bool,
 }
 
@@ -30,15 +30,29 @@ pub struct Part {
 pub fn map(chunk: &[u8]) -> Vec<Part> {
     let mut walk = Walk::new(chunk);
     let outcome = header(&mut walk).and_then(|(encoding, count)| body(&mut walk, encoding, count));
+    let refusal = decode_integers(chunk).err().map(|error| error.refusal());
     let rest = walk.rest().len();
     if rest > 0 {
         let bytes = counted(rest, "byte", "bytes");
-        match outcome {
-            Ok(()) => walk.part(rest, "after the body", format!("{bytes} (strict reading refuses them)")),
-            Err(_) => walk.part(rest, "not read", bytes),
+        match (outcome, refusal) {
+            (Ok(()), None) => walk.part(rest, "after the body", format!("{bytes} (strict reading refuses them)")),
+            (Ok(()), Some(_)) => walk.part(rest, "after the body", bytes),
+            (Err(_), _) => walk.part(rest, "not read", bytes),
         }
     }
-    walk.into_parts()
+    let mut parts = walk.into_parts();
+    let faulty = refusal.and_then(part_at_fault);
+    parts.iter_mut().filter(|part| Some(part.what.as_str()) == faulty).for_each(|part| part.is_fault = true);
+    parts
+}
+
+/// The part that is refused for values that the walk does not look at.
+fn part_at_fault(refusal: Refusal) -> Option<&'static str> {
+    match refusal {
+        Refusal::RunsBelowCount => Some("runs"),
+        Refusal::CodeAboveEntries => Some("packed codes"),
+        _ => None,
+    }
 }
 
 fn header(walk: &mut Walk) -> Step<(Encoding, usize)> {
@@ -81,13 +95,16 @@ fn body(walk: &mut Walk, encoding: Encoding, count: usize) -> Step<()> {
 #[cfg(test)]
 mod tests {
     use super::*;
-    use warpboulder::{decode_integers, encode_integers, Refusal};
+    use warpboulder::encode_integers;
 
     /// Refusals whose offset is not the place of the part that cannot be read.
-    const ELSEWHERE: [Refusal; 3] = [Refusal::NoHeader, Refusal::WidthAbove64, Refusal::PackedCut];
-
-    /// Refusals of values that the map does not look at.
-    const NOT_MAPPED: [Refusal; 2] = [Refusal::RunsBelowCount, Refusal::CodeAboveEntries];
+    const ELSEWHERE: [Refusal; 5] = [
+        Refusal::NoHeader,
+        Refusal::WidthAbove64,
+        Refusal::PackedCut,
+        Refusal::RunsBelowCount,
+        Refusal::CodeAboveEntries,
+    ];
 
     /// The map has every byte once, and it ends where the library refuses.
     fn check(chunk: &[u8]) {
@@ -106,9 +123,7 @@ mod tests {
                 let is_placed = ELSEWHERE.contains(&error.refusal()) || place.contains(&error.offset());
                 assert!(is_placed, "{chunk:02x?} {error} {parts:#?}");
             }
-            (Err(error), None) => {
-                assert!(NOT_MAPPED.contains(&error.refusal()), "{chunk:02x?} {error} {parts:#?}");
-            }
+            (Err(error), None) => panic!("{chunk:02x?} {error} {parts:#?}"),
             (Ok(_), Some(_)) => panic!("{chunk:02x?} is accepted {parts:#?}"),
         }
     }

@@ -24,7 +24,7 @@ pub fn plain(walk: &mut Walk, count: usize) -> Step<()> {
 
 pub fn bit_packed(walk: &mut Walk, count: usize) -> Step<()> {
     let width = width(walk)?;
-    packed(walk, "packed ZigZags", count, width, |zigzag| varint::zigzag_decode(zigzag).to_string())
+    packed(walk, "keys, as packed ZigZags", count, width, |zigzag| varint::zigzag_decode(zigzag).to_string())
 }
 
 pub fn frame_of_reference(walk: &mut Walk, count: usize) -> Step<()> {
@@ -36,7 +36,9 @@ pub fn frame_of_reference(walk: &mut Walk, count: usize) -> Step<()> {
     let least = i64::from_le_bytes(least);
     walk.part(KEY_BYTES, "least key", least.to_string());
     let width = width(walk)?;
-    packed(walk, "packed differences", count, width, |difference| least.wrapping_add_unsigned(difference).to_string())
+    packed(walk, "keys, as packed differences", count, width, |difference| {
+        least.wrapping_add_unsigned(difference).to_string()
+    })
 }
 
 /// The width byte of what is packed behind it.

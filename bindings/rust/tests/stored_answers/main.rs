@@ -34,7 +34,7 @@ impl Answer {
             }
             Err(error) => {
                 assert_eq!(error.number(), self.number);
-                assert!(self.offset.is_none_or(|offset| offset == error.offset() as u64), "{error}");
+                assert!(self.offset.map_or(true, |offset| offset == error.offset() as u64), "{error}");
                 None
             }
         }

@@ -7,6 +7,9 @@ use crate::lent::Lent;
 use crate::numbers::Source;
 use crate::plants::Plant;
 
+/// A claimed count may be far above what there is memory for.
+const MOST_FOR_REFUSED: usize = 4096;
+
 pub struct Desk {
     /// What is read: a chunk, packed bytes or varints; keys; values to pack.
     pub bytes: Lent<u8>,
@@ -57,6 +60,15 @@ impl Desk {
     /// How many places more than needed a buffer gets: none as often as one, two or three.
     pub fn spare(&mut self) -> usize {
         self.vary.below(4) as usize
+    }
+
+    /// How many places a call gets that is to be refused: in some cases those that it would need if it were accepted, so that what is
+    /// stored before the refusal is found is seen. Many places are lent more rarely, since every one is compared afterwards.
+    pub fn refused_room(&mut self, needed: usize) -> usize {
+        let needed = needed.min(MOST_FOR_REFUSED);
+        let one_in = if needed <= 64 { 2 } else { 32 };
+        let lent = if self.vary.below(one_in) == 0 { needed } else { 0 };
+        lent + self.spare()
     }
 
     /// One of several.

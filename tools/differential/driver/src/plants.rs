@@ -22,7 +22,7 @@ const fn plant(name: &'static str, what: &'static str, spoil: fn(&mut Desk, Call
     Plant { name, what, spoil }
 }
 
-pub const PLANTS: [Plant; 38] = [
+pub const PLANTS: [Plant; 40] = [
     plant("zigzag-of-the-least", "the ZigZag of the least key is one less", |_, call, returned| {
         if call == Call::ZigzagEncode && *returned == u64::MAX {
             *returned -= 1;
@@ -87,6 +87,11 @@ pub const PLANTS: [Plant; 38] = [
             change_last(desk, |desk| &mut desk.unpacked, |value| value ^ 1);
         }
     }),
+    plant("unpacked-though-refused", "a value is stored before 13 is found", |desk, call, returned| {
+        if call == Call::Unpack && *returned == 13 && desk.unpacked.len() > MOST_SPARE {
+            change(&mut desk.unpacked, 0, |_| 0);
+        }
+    }),
     plant("unpacked-too-many", "more than 2^24 values are refused with 20", |_, call, returned| {
         if call == Call::Unpack && *returned == 21 {
             *returned = 20;
@@ -116,6 +121,11 @@ pub const PLANTS: [Plant; 38] = [
     }),
     plant("written-though-refused", "a byte is stored to an output that is too short", |desk, call, returned| {
         if call == Call::EncodeIntegers && *returned == 20 && desk.out.len() > 0 {
+            change(&mut desk.out, 0, |element| element ^ 1);
+        }
+    }),
+    plant("written-before-2", "a byte is stored before 2 is found", |desk, call, returned| {
+        if call == Call::EncodeIntegers && *returned == 2 && desk.out.len() > MOST_SPARE {
             change(&mut desk.out, 0, |element| element ^ 1);
         }
     }),
@@ -171,7 +181,7 @@ pub const PLANTS: [Plant; 38] = [
         }
     }),
     plant("filled-though-refused", "a key is stored before 18 is found", |desk, call, returned| {
-        if reads_chunk(call) && *returned == 18 && desk.keys.len() > 0 {
+        if reads_chunk(call) && *returned == 18 && desk.keys.len() > MOST_SPARE {
             change(&mut desk.keys, 0, |_| 0);
         }
     }),
@@ -218,6 +228,9 @@ pub const PLANTS: [Plant; 38] = [
         }
     }),
 ];
+
+/// A buffer that has more places than this was lent for what a call would store, not only to be looked at behind its front.
+const MOST_SPARE: usize = 3;
 
 fn reads_varint(call: Call) -> bool {
     matches!(call, Call::ReadUvarint | Call::ReadVarint)

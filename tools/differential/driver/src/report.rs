@@ -9,7 +9,7 @@ use crate::show;
 use crate::tally::{Difference, Tally};
 use std::time::Instant;
 
-/// Compares the families, prints the table and the smallest difference. Whether there was none.
+/// Compares the families, prints the table and the smallest difference. Whether there was none, and nothing was left out.
 pub fn comparison(options: &Options) -> bool {
     let start = Instant::now();
     println!("{:<16}{:>14}{:>13}{:>10}   what", "family", "cases", "differences", "seconds");
@@ -28,11 +28,24 @@ pub fn comparison(options: &Options) -> bool {
     row("all", &all, start, "");
     functions(&all);
     println!("\nseed {}", options.seed);
-    match &all.smallest {
-        None => println!("No difference."),
-        Some(difference) => show_difference(difference, smallest_in, options),
+    let left_out = left_out(&all, options.family);
+    match (&all.smallest, &left_out) {
+        (Some(difference), _) => show_difference(difference, smallest_in, options),
+        (None, Some(left_out)) => println!("{left_out}"),
+        (None, None) => println!("No difference."),
     }
-    all.differences == 0
+    all.differences == 0 && left_out.is_none()
+}
+
+/// What a run has not compared, in words: without it, a run that compares nothing would find no difference. One family alone need not
+/// call every function.
+fn left_out(tally: &Tally, family: Option<&str>) -> Option<String> {
+    if tally.total() == 0 {
+        return Some("There was no case in this setting: nothing was compared.".to_string());
+    }
+    let uncalled: Vec<&str> =
+        NAMES.into_iter().zip(tally.cases).filter(|&(_, cases)| cases == 0).map(|(name, _)| name).collect();
+    (family.is_none() && !uncalled.is_empty()).then(|| format!("There was no case of {}.", uncalled.join(", ")))
 }
 
 fn row(name: &str, tally: &Tally, start: Instant, what: &str) {
@@ -86,4 +99,29 @@ fn first_difference(options: &Options, plant: Option<&'static Plant>) -> Option<
         let (_, differs) = difference.lines.last()?;
         Some(format!("found in {}: {differs}", family.name))
     })
+}
+
+#[cfg(test)]
+mod tests {
+    use super::*;
+
+    fn tally_of(cases: [u64; NAMES.len()]) -> Tally {
+        Tally { cases, ..Tally::new() }
+    }
+
+    #[test]
+    fn a_run_without_cases_is_not_one_without_a_difference() {
+        for family in [None, Some("long-columns")] {
+            assert!(left_out(&Tally::new(), family).unwrap().contains("nothing was compared"));
+        }
+    }
+
+    #[test]
+    fn functions_that_were_not_called_are_named() {
+        let mut cases = [1; NAMES.len()];
+        assert_eq!(left_out(&tally_of(cases), None), None);
+        (cases[0], cases[10]) = (0, 0);
+        assert_eq!(left_out(&tally_of(cases), None).unwrap(), "There was no case of wb_zigzag_encode, wb_pack.");
+        assert_eq!(left_out(&tally_of(cases), Some("numbers")), None);
+    }
 }

@@ -26,7 +26,8 @@ const REFUSED_PLAN: [u64; PLAN_WORDS] = {
 const CARDINALITY_IS_EXACT: usize = 7;
 const ENCODING: usize = 0;
 
-const NO_LEVELS: [u32; 5] = [10, 11, 255, 256, u32::MAX];
+/// Levels that the original has none of.
+pub const NO_LEVELS: [u32; 5] = [10, 11, 255, 256, u32::MAX];
 
 #[derive(Clone, Copy)]
 struct Analysis {

@@ -37,16 +37,19 @@ pub fn pack(job: &mut Job, values: &[u64], width: u32) {
         Ok(packed)
     });
     job.desk.hold_values(values);
-    let spare = job.desk.spare();
     match answer {
         Ok(Ok(packed)) => {
             let length = packed.len();
-            compare_packed(job, values, width, length + spare, Answer::accepted(length), &packed);
+            let size = length + job.desk.spare();
+            compare_packed(job, values, width, size, Answer::accepted(length), &packed);
             for short in [length.saturating_sub(1), 0].into_iter().filter(|&short| short < length) {
                 compare_packed(job, values, width, short, Answer::added(20, length), &[]);
             }
         }
-        Ok(Err(refused)) => compare_packed(job, values, width, spare, Answer::refused(refused), &[]),
+        Ok(Err(refused)) => {
+            let size = job.desk.refused_room(size_of_val(values));
+            compare_packed(job, values, width, size, Answer::refused(refused), &[]);
+        }
         Err(message) => {
             job.tally.panicked(&message, values.len(), || format!("width {width}: {}", show::keys(values)));
         }
@@ -56,7 +59,7 @@ pub fn pack(job: &mut Job, values: &[u64], width: u32) {
 /// More values than 2^24, which the original packs: 21, before 12.
 pub fn pack_too_many(job: &mut Job, values: &[u64], width: u32) {
     job.desk.hold_values(values);
-    let size = job.desk.spare();
+    let size = job.desk.refused_room(size_of_val(values));
     compare_packed(job, values, width, size, Answer::added(21, 0), &[]);
 }
 
@@ -79,19 +82,23 @@ fn compare_packed(job: &mut Job, values: &[u64], width: u32, size: usize, wanted
 /// Unpacking to buffers that are long enough and one value too short. Above 2^24 values document 01 answers 21.
 pub fn unpack(job: &mut Job, bytes: &[u8], width: u32, count: usize) {
     job.desk.hold_bytes(bytes);
-    let spare = job.desk.spare();
     if count > MAX_CHUNK_ELEMENTS {
-        return compare_unpacked(job, bytes, (width, count), spare, Answer::added(21, 0), &[]);
+        let room = job.desk.refused_room(count);
+        return compare_unpacked(job, bytes, (width, count), room, Answer::added(21, 0), &[]);
     }
     let answer = ask(|| bitpack::unpack(bytes, width, count).map_err(|error| refusal(refusal::Call::Unpack, &error)));
     match answer {
         Ok(Ok(values)) => {
-            compare_unpacked(job, bytes, (width, count), count + spare, Answer::accepted(count), &values);
+            let room = count + job.desk.spare();
+            compare_unpacked(job, bytes, (width, count), room, Answer::accepted(count), &values);
             if count > 0 {
                 compare_unpacked(job, bytes, (width, count), count - 1, Answer::added(20, count), &[]);
             }
         }
-        Ok(Err(refused)) => compare_unpacked(job, bytes, (width, count), spare, Answer::refused(refused), &[]),
+        Ok(Err(refused)) => {
+            let room = job.desk.refused_room(count);
+            compare_unpacked(job, bytes, (width, count), room, Answer::refused(refused), &[]);
+        }
         Err(message) => {
             let input = || format!("{count} values of {width} bits: {}", show::hex(bytes));
             job.tally.panicked(&message, bytes.len(), input);

@@ -7,6 +7,7 @@ use crate::original::ask;
 use crate::reading::read;
 use crate::show;
 use crate::strict;
+use basalt_encoding::varint::read_uvarint;
 
 /// How a chunk is read: name 0 is the reading without a name.
 #[derive(Clone, Copy)]
@@ -42,7 +43,7 @@ pub fn chunk(job: &mut Job, chunk: &[u8], names: &[u8]) {
         }
     }
     let (name, strict) = (job.desk.one_of(&NO_NAMES), job.desk.one_of(&[false, true]));
-    let reading = Reading { name, strict, room: job.desk.spare() };
+    let reading = Reading { name, strict, room: job.desk.refused_room(claimed_count(chunk)) };
     let returned = job.desk.decode_named(reading.name, reading.strict, reading.room);
     compare(job, Call::DecodeNamed, chunk, reading, returned, Answer::added(2, 0), &[]);
 }
@@ -64,7 +65,10 @@ fn answers(name: u8, chunk: &[u8]) -> Answers {
 fn readings(job: &mut Job, chunk: &[u8], name: u32, answers: &Answers) {
     let count = answers.keys.len();
     for (strict, wanted) in [(false, answers.lenient), (true, answers.strict)] {
-        let room = count + job.desk.spare();
+        let room = match answers.lenient.number {
+            0 => count + job.desk.spare(),
+            _ => job.desk.refused_room(claimed_count(chunk)),
+        };
         let stored = if wanted.number == 0 { &answers.keys[..] } else { &[] };
         one(job, chunk, Reading { name, strict, room }, wanted, stored);
         if count > 0 {
@@ -73,6 +77,11 @@ fn readings(job: &mut Job, chunk: &[u8], name: u32, answers: &Answers) {
             one(job, chunk, Reading { name, strict, room }, wanted, &[]);
         }
     }
+}
+
+/// The keys that the header claims, which stand behind the id and the version; none where there is no varint.
+fn claimed_count(chunk: &[u8]) -> usize {
+    read_uvarint(chunk, &mut 2).map_or(0, |count| count as usize)
 }
 
 fn one(job: &mut Job, chunk: &[u8], reading: Reading, wanted: Answer, stored: &[i64]) {

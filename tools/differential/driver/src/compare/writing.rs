@@ -9,6 +9,9 @@ use crate::reading::write;
 use crate::show;
 use basalt_encoding::{Encoding, MAX_DICTIONARY_CARDINALITY};
 
+/// Id, version, and the count as a varint of four bytes.
+const LONGEST_HEADER: usize = 6;
+
 #[derive(Clone, Copy)]
 struct Writing {
     encoding: u32,
@@ -79,9 +82,11 @@ pub fn too_many(job: &mut Job, column: &[i64]) {
     refused(job, column, 8, Answer::added(2, 0));
 }
 
-/// A refusal that comes before any buffer is looked at.
+/// A refusal that comes before any buffer is looked at, with buffers that have nothing or much of what a chunk would need.
 fn refused(job: &mut Job, column: &[i64], encoding: u32, wanted: Answer) {
-    let writing = Writing { encoding, places: job.desk.spare(), size: job.desk.spare() };
+    let places = job.desk.refused_room(places_needed(column));
+    let size = job.desk.refused_room(LONGEST_HEADER + size_of_val(column));
+    let writing = Writing { encoding, places, size };
     compare(job, column, writing, wanted, Stored::default());
 }
 

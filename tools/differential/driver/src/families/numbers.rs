@@ -1,9 +1,8 @@
 //! Numbers about every power of two, and random ones of every width.
 
+use crate::compare::analysis::NO_LEVELS;
 use crate::compare::number::{minimum_gain, number};
 use crate::job::{Job, Setting};
-
-const LEVELS_ABOVE: [u32; 5] = [10, 11, 255, 256, u32::MAX];
 
 pub fn jobs(setting: Setting) -> usize {
     setting.of([1, 40, 800])
@@ -14,7 +13,7 @@ pub fn run(job: &mut Job) {
         for bits in edges() {
             number(job, bits);
         }
-        for level in (0..=9).chain(LEVELS_ABOVE) {
+        for level in (0..=9).chain(NO_LEVELS) {
             minimum_gain(job, level);
         }
     }
