@@ -1,11 +1,13 @@
 // The types of the format's answers (document 01, "Questions at the counter" and "Statistics, estimates, plan"), the numbers
 // of its refusals, and its limits. There is no function here: what the calls answer is defined in specs/, over these types.
 
+#![tactic(auto)]
+
 pub mod limits;
 pub mod refusal;
 
 // The seven integer encodings, in the order of their ids, 1 to 7.
-#[derive(Drop)]
+#[derive(Clone, Copy)]
 pub enum Encoding {
     Plain,
     Varint,
@@ -16,7 +18,7 @@ pub enum Encoding {
     DeltaBinaryPacked,
 }
 
-#[derive(Drop)]
+#[derive(Clone, Copy)]
 pub enum Sortedness {
     Constant,
     Ascending,
@@ -25,13 +27,13 @@ pub enum Sortedness {
 }
 
 // The number of distinct values, or a number that there are at least.
-#[derive(Drop)]
+#[derive(Clone, Copy)]
 pub enum Cardinality {
     Exact(usize),
     AtLeast(usize),
 }
 
-#[derive(Drop)]
+#[derive(Clone, Copy)]
 pub enum PlanReason {
     Empty,
     CompressionDisabled,
@@ -40,7 +42,7 @@ pub enum PlanReason {
 }
 
 // Accepted, with the count of values or bytes stored; or refused, with a number and an offset.
-#[derive(Drop)]
+#[derive(Clone, Copy)]
 pub enum Answer {
     Accepted(usize),
     Refused(u32, usize),
@@ -48,49 +50,49 @@ pub enum Answer {
 
 // An unsigned varint that was read: its value, the place after it, and whether it is unpadded, which strict reading asks;
 // or refused, with a number and an offset.
-#[derive(Drop)]
+#[derive(Clone, Copy)]
 pub enum UvarintAnswer {
     Read(u64, usize, bool),
     Malformed(u32, usize),
 }
 
 // The same for a signed varint.
-#[derive(Drop)]
+#[derive(Clone, Copy)]
 pub enum VarintAnswer {
     Read(i64, usize, bool),
     Malformed(u32, usize),
 }
 
 // The start of the first padded varint that was read so far, which strict reading asks for, if there is one.
-#[derive(Drop)]
+#[derive(Clone, Copy)]
 pub enum Padded {
     Nowhere,
     At(usize),
 }
 
 // The encoding with a number, or in a chunk's first byte; or refused.
-#[derive(Drop)]
+#[derive(Clone, Copy)]
 pub enum EncodingAnswer {
     Known(Encoding),
     Unknown(u32, usize),
 }
 
 // A header that was read: the count, the start of the body, the first padded varint; or refused.
-#[derive(Drop)]
+#[derive(Clone, Copy)]
 pub enum HeaderAnswer {
     Found(usize, usize, Padded),
     Malformed(u32, usize),
 }
 
 // A part of a chunk that was read: where it ends, the first padded varint up to there; or refused.
-#[derive(Drop)]
+#[derive(Clone, Copy)]
 pub enum ExtentAnswer {
     Ends(usize, Padded),
     Malformed(u32, usize),
 }
 
 // The fields of the Rust's `IntegerStats` but the distinct values, which are handed back as a part of the scratch.
-#[derive(Drop)]
+#[derive(Clone, Copy)]
 pub struct IntegerStats {
     pub count: usize,
     pub first: i64,
@@ -109,14 +111,14 @@ pub struct IntegerStats {
 }
 
 // The seven candidate lengths in the order of the ids, and which of them are available.
-#[derive(Drop)]
+#[derive(Clone, Copy)]
 pub struct SizeEstimates {
     pub lengths: [usize; 7],
     pub available: [bool; 7],
 }
 
 // The Rust's `EncodingPlan`, with the run density, the ratio and the candidates beside it.
-#[derive(Drop)]
+#[derive(Clone, Copy)]
 pub struct EncodingPlan {
     pub encoding: Encoding,
     pub estimated_bytes: usize,
@@ -128,19 +130,19 @@ pub struct EncodingPlan {
 }
 
 // What a call for statistics, for estimates or for a plan gives: its answer, and the record.
-#[derive(Drop)]
+#[derive(Clone, Copy)]
 pub struct StatsAnswer {
     pub answer: Answer,
     pub stats: IntegerStats,
 }
 
-#[derive(Drop)]
+#[derive(Clone, Copy)]
 pub struct EstimatesAnswer {
     pub answer: Answer,
     pub estimates: SizeEstimates,
 }
 
-#[derive(Drop)]
+#[derive(Clone, Copy)]
 pub struct PlanAnswer {
     pub answer: Answer,
     pub plan: EncodingPlan,

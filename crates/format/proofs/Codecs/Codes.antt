@@ -67,7 +67,7 @@ ranked-keep {v} w (there {x} {xs} e h) = there-step w v x xs e h (ranked-keep w 
 ranked-from : {v : ℤ} {held : List ℤ} (vs : List ℤ) → Ranked v held → Ranked v (distinct_from held vs)
 unfolding distinct_from
 ranked-from [] h = h
-ranked-from (w ∷ vs) h = ranked-from vs (ranked-keep w h)
+ranked-from {v = v} {held = held} (w ∷ vs) h = ranked-from {v = v} {held = insert w held} vs (ranked-keep w h)
 
 -- each value met is ranked at the end
 ranked-each : (held vs : List ℤ) → All (λ v. Ranked v (distinct_from held vs)) vs

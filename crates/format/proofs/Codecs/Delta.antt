@@ -117,7 +117,7 @@ blocks-validate {s} {at} {ds} (suc k) padded ks h =
     let ka : All Key (take 128 ds) = all_take 128 ks in
     let ha : Occurs s at a = occurs-first a b h in
     rw (block_read ka ha, block-width ka ha, next-block ds, block-end ka ha, left-blocks ds, first_padded-unpadded padded at, length-append a b, ← add_assoc)
-    (blocks-validate k padded (all_drop 128 ks) (occurs-next a b h))
+    (blocks-validate {at = at + length a} k padded (all_drop 128 ks) (occurs-next a b h))
 
 -- and their deltas: so many as k blocks have
 pub blocks-back :
@@ -135,7 +135,7 @@ blocks-back {s} {at} {ds} (suc k) ks h =
     ap₂ (λ (low : UvarintRead) (m : ℕ). from_low s k (length ds) low (get_or s low.next 0) m) (block_at ka ha) (next-block ds)
     ∙ ap (λ (w : ℕ). from_low s k (length ds) (uvarint_written at (zigzag (least (take 128 ds)))) w n) (block-byte ka ha)
     ∙ ap₂ (λ (x y : List ℤ). x ++ y) (block_back ka ha)
-    (ap₂ (λ (p l : ℕ). block_deltas s 128 p k l) (block-after ka ha) (left-blocks ds) ∙ blocks-back k (all_drop 128 ks) (occurs-next a b h))
+    (ap₂ (λ (p l : ℕ). block_deltas s 128 p k l) (block-after ka ha) (left-blocks ds) ∙ blocks-back {at = at + length a} k (all_drop 128 ks) (occurs-next a b h))
     ∙ sym (take-add 128 (k * 128) ds)
     ∙ ap (λ (m : ℕ). take m ds) all
 

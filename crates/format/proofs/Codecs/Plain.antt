@@ -30,4 +30,4 @@ module _ {s : List ℕ} where
   plain_back all_none o = refl
   plain_back {at} (all_more {x} {xs} k r) o =
       ap₂ {A = ℤ} {B = List ℤ} (λ v vs. v ∷ vs) (key_at-back x k (occurs-first (key_bytes x) (plain_body xs) o))
-      (plain_back r (occurs-at (ap (λ (n : ℕ). at + n) (length-key_bytes x)) (occurs-next (key_bytes x) (plain_body xs) o)))
+      (plain_back {at = at + 8} r (occurs-at (ap (λ (n : ℕ). at + n) (length-key_bytes x)) (occurs-next (key_bytes x) (plain_body xs) o)))

@@ -159,7 +159,7 @@ runs-validate {s} {at} padded (all_more {x} {xs} f fs) h =
       ← add_assoc,
       ← e,
     )
-    (runs-validate padded fs (occurs-next (a ++ b) (run_bytes xs) h))
+    (runs-validate {at = at + length (a ++ b)} padded fs (occurs-next (a ++ b) (run_bytes xs) h))
 
 -- and their values
 pub runs-back : {s : List ℕ} {at : ℕ} {rs : List Run} → All RunFits rs → Occurs s at (run_bytes rs) → run_values s at (length rs) ≡ expanded rs
@@ -174,7 +174,7 @@ runs-back {s} {at} (all_more {x} {xs} f fs) h =
     (uvarint_at-back (zigzag x.key) (zigzag-lt x.key f.key) (occurs-first a b ab))
     ∙ ap (λ (t : UvarintRead). replicate t.value (unzigzag (zigzag x.key)) ++ run_values s t.next (length xs))
     (uvarint_at-back x.times f.small (occurs-next a b ab))
-    ∙ rw (unzigzag-zigzag x.key) (ap (λ (l : List ℤ). replicate x.times x.key ++ l) (runs-back fs (occurs-at e (occurs-next (a ++ b) (run_bytes xs) h))))
+    ∙ rw (unzigzag-zigzag x.key) (ap (λ (l : List ℤ). replicate x.times x.key ++ l) (runs-back {at = at + length a + length b} fs (occurs-at e (occurs-next (a ++ b) (run_bytes xs) h))))
 
 module _ {s : List ℕ} {at : ℕ} {column : List ℤ} (ks : All Key column) (few : length column ≤ max_chunk_elements) where
   -- RunLength: the end of a body that occurs at a place,

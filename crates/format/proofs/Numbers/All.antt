@@ -20,12 +20,12 @@ module _ {A : Type 0} where
   pub all_take : {P : A → Type 0} {xs : List A} (n : ℕ) → All P xs → All P (take n xs)
   all_take zero r = all_none
   all_take (suc n) all_none = all_none
-  all_take (suc n) (all_more h r) = all_more h (all_take n r)
+  all_take {P = P} (suc n) (all_more {x = x} {xs = xs} h r) = all_more h (all_take {P = P} {xs = xs} n r)
 
   pub all_drop : {P : A → Type 0} {xs : List A} (n : ℕ) → All P xs → All P (drop n xs)
   all_drop zero r = r
   all_drop (suc n) all_none = all_none
-  all_drop (suc n) (all_more h r) = all_drop n r
+  all_drop {P = P} (suc n) (all_more {x = x} {xs = xs} h r) = all_drop {P = P} {xs = xs} n r
 
   -- where it holds at every place
   pub all-by : {P : A → Type 0} (xs : List A) (d : A) → ((i : ℕ) → i < length xs → P (get_or xs i d)) → All P xs

@@ -176,7 +176,7 @@ module _ (P : ℤ → Type 0) where
   pub distinct_from-has : {held vs : List ℤ} → All P held → All P vs → All P (distinct_from held vs)
   unfolding distinct_from
   distinct_from-has h all_none = h
-  distinct_from-has h (all_more {x} p r) = distinct_from-has (insert-has x p h) r
+  distinct_from-has {held = held} h (all_more {x = x} p r) = distinct_from-has {held = insert x held} (insert-has x p h) r
 
   -- what holds of every value of a column holds of its distinct values
   pub distinct-has : {column : List ℤ} → All P column → All P (distinct column)

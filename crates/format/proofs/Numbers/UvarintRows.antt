@@ -44,7 +44,7 @@ unfolding uvarints_bytes validate_uvarints
 validate_uvarints-back {at} padded all_none o = ap (λ (n : ℕ). ok (record { end = n; padded = padded })) (sym (add-zero at))
 validate_uvarints-back {s} {at} padded (all_more {x} {xs} h b) o =
     rw (read_uvarint-back x h (occurs-first (uvarint_bytes x) (uvarints_bytes xs) o), first_padded-unpadded padded at)
-    (validate_uvarints-back padded b (occurs-next (uvarint_bytes x) (uvarints_bytes xs) o)
+    (validate_uvarints-back {at = at + length (uvarint_bytes x)} padded b (occurs-next (uvarint_bytes x) (uvarints_bytes xs) o)
     ∙ ap (λ (n : ℕ). ok (record { end = n; padded = padded })) (after_first at x xs))
 
 -- their values,
@@ -53,7 +53,7 @@ unfolding uvarints_bytes uvarint_values
 uvarint_values-back all_none o = refl
 uvarint_values-back {s} {at} (all_more {x} {xs} h b) o =
     rw (uvarint_at-back x h (occurs-first (uvarint_bytes x) (uvarints_bytes xs) o))
-    (ap (λ (l : List ℕ). x ∷ l) (uvarint_values-back b (occurs-next (uvarint_bytes x) (uvarints_bytes xs) o)))
+    (ap (λ (l : List ℕ). x ∷ l) (uvarint_values-back {at = at + length (uvarint_bytes x)} b (occurs-next (uvarint_bytes x) (uvarints_bytes xs) o)))
 
 -- and the place after them
 pub after_uvarints-back :
@@ -62,5 +62,5 @@ unfolding uvarints_bytes after_uvarints
 after_uvarints-back {at} all_none o = sym (add-zero at)
 after_uvarints-back {s} {at} (all_more {x} {xs} h b) o =
     ap (λ (v : UvarintRead). after_uvarints s v.next (length xs)) (uvarint_at-back x h (occurs-first (uvarint_bytes x) (uvarints_bytes xs) o))
-    ∙ after_uvarints-back b (occurs-next (uvarint_bytes x) (uvarints_bytes xs) o)
+    ∙ after_uvarints-back {at = at + length (uvarint_bytes x)} b (occurs-next (uvarint_bytes x) (uvarints_bytes xs) o)
     ∙ after_first at x xs
