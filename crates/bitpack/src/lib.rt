@@ -1,5 +1,7 @@
 // Bit packing at a width of 0 to 64 bits: value i is at bit i * width, lowest bit of a byte first (the Rust's
 // `bitpack.rs`). Every call answers for every argument; a refusal leaves the buffer as it was.
+#![tactic(auto)]
+
 ghost use Rattle.std.specs.Prelude.{◌≡◌, ◌++◌, ◌≤◌, min, length, take, drop};
 ghost use Rattle.format.specs.Encodings.{max_chunk_elements};
 ghost use Rattle.format.specs.Packing.{packed_len};

@@ -123,7 +123,7 @@ insert-again v (x ∷ xs) = go (ordered v x) (insert-again v xs)
   where
     go : Ordered v x → insert v (insert v xs) ≡ insert v xs → insert v (insert v (x ∷ xs)) ≡ insert v (x ∷ xs)
     go (less a) i = ap (insert v) (insert-below v x xs a) ∙ insert-head v (x ∷ xs) ∙ sym (insert-below v x xs a)
-    go (same e) i = rw e (ap (insert x) (insert-head x xs))
+    go (same e) i = ap (insert v) (ap (λ (y : ℤ). insert y (x ∷ xs)) e ∙ insert-head x xs)
     go (greater b) i = ap (insert v) (insert-above v x xs b) ∙ insert-above v x (insert v xs) b ∙ ap (λ (l : List ℤ). x ∷ l) i ∙ sym (insert-above v x xs b)
 
 -- ---- keys gathered first

@@ -1,5 +1,7 @@
 // The distinct values of a column, rising, at the front of a lent scratch, and a search among them: the Rust's `HashSet` in
 // stats.rs, and the sorted `Vec` and `partition_point` of its DictionaryCodec.
+#![tactic(auto)]
+
 ghost use Rattle.std.specs.Prelude.{◌≡◌, min, length};
 ghost use Rattle.format.specs.Encodings.{max_dictionary_cardinality};
 ghost use Rattle.format.specs.Write.{write_scratch};

@@ -30,7 +30,7 @@ module _ (z : ℤ) (f : SFits w64 z) where
 
 -- a key that is read from a column or comes from a call, back from the bits that the machine holds
 pub held : (v : ℤ) → Key v → to_z w64 (of_z w64 v) ≡ v
-held v h = to_z-of_z (record { sfits = h })
+held v h = to_z-of_z {w = w64} (record { sfits = h })
 
 -- keys have the same bits where they are the same
 pub same_bits : (a b : ℤ) → Key a → Key b → eqb (of_z w64 a) (of_z w64 b) ≡ eq_z a b

@@ -1,5 +1,7 @@
 // Keys and their 64 bits, the lesser and the greater of two, sums and differences that wrap, ZigZag, and the width of a number:
 // the Rust's casts, its `min` and `max`, its `wrapping_add` and `wrapping_sub`, the ZigZag of varint.rs and `required_width` of bitpack.rs.
+#![tactic(auto)]
+
 ghost use Rattle.std.specs.Prelude.{◌≡◌};
 ghost use Rattle.format.specs.Keys.{residue, as_signed, wrapping_add, delta, zigzag, unzigzag};
 ghost use Rattle.format.specs.Keys as Keys;

@@ -11,7 +11,7 @@ use crate::words::{group, wide};
 use format::UvarintAnswer;
 
 // The value of a varint, and the place after it; 0 and 0 of one that is refused.
-#[derive(Drop)]
+#[derive(Clone, Copy)]
 pub struct Found {
     pub value: u64,
     pub next: usize,

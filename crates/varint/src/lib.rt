@@ -1,5 +1,7 @@
 // Varints: the Rust's varint.rs, but its ZigZag, which is in the crate number. The position that the Rust lends as `&mut usize`
 // is a place passed in and the next place handed back; the `Vec` that it appends to is the front of a lent slice.
+#![tactic(auto)]
+
 ghost use Rattle.std.specs.Prelude.{◌≡◌, length, nat_lt};
 ghost use Rattle.format.specs.Varint.{uvarint_len, varint_len};
 ghost use Rattle.format.specs.Standalone.{uvarint_answer, varint_answer, uvarint_write_answer, uvarint_write_output, varint_write_answer, varint_write_output};
