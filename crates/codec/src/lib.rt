@@ -1,5 +1,7 @@
 // What the seven codecs share (the Rust's codec.rs): encodings and their numbers, the header, and the questions that more than one
 // body is asked.
+#![tactic(auto)]
+
 ghost use Rattle.std.specs.Prelude.{◌≡◌};
 ghost use Rattle.format.specs.Encodings.{id_of, decode_cost_rank};
 ghost use Rattle.format.specs.Parts.{encoding_answer};

@@ -1,4 +1,6 @@
 // The entries of a dictionary, measured: for writing one, and for its estimate.
+#![tactic(auto)]
+
 ghost use Rattle.std.specs.Prelude.{◌≡◌, ◌≤◌, length};
 ghost use Rattle.format.specs.Encodings.{max_dictionary_cardinality};
 ghost use Rattle.format.specs.Dictionary.{code_width};

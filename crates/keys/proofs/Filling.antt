@@ -4,7 +4,6 @@ use mathlib.Core.Path.{◌≡◌, sym, ap, ◌∙◌}
 use mathlib.Core.Bool.{Bool}
 use mathlib.Core.List.{List, [], ◌∷◌, ◌++◌}
 use Prim.Native.Nat.{ℕ, zero, suc, ◌+◌, ◌-◌, ◌^◌, ◌≤◌, ◌<◌, min}
-use native.Mathlib.Nat.{sub-zero}
 use native.Mathlib.Omega.{arith}
 use borrow.Author.Rules.{sfits_of}
 use borrow.Author.Tests.{le-leb, lt-leb}
@@ -17,7 +16,7 @@ use mir.Val.{to_z, of_z}
 use mir.Facts.{to_z-of_z}
 use Rattle.format.specs.Encodings.{max_chunk_elements}
 use Rattle.format.specs.Keys.{unzigzag}
-use Rattle.format.proofs.Numbers.Stores.{Storing, storing-none, storing-part, storing-done, sets-stored}
+use Rattle.format.proofs.Numbers.Stores.{Storing, storing-part, storing-done, sets-stored}
 use Rattle.varint.specs.Finding.{found_at}
 use Rattle.varint.specs.declared.find.Found.{Found}
 use Rattle.keys.specs.Rows.{times_after, key_rows, filled_from}
@@ -27,10 +26,6 @@ use Rattle.keys.specs.Rows.{times_after, key_rows, filled_from}
 -- one of the copies that are left
 pub replicate-first : (times i : ℕ) (key : ℤ) → i < times → replicate (times - i) key ≡ key ∷ replicate (times - (i + 1)) key
 replicate-first times i key h = let e : times - i ≡ suc (times - (i + 1)) = omega arith in ap (λ (n : ℕ). replicate n key) e
-
--- none is left
-pub replicate-none : (times i : ℕ) (key : ℤ) → times ≤ i → replicate (times - i) key ≡ []
-replicate-none times i key h = let e : times - i ≡ 0 = omega arith in ap (λ (n : ℕ). replicate n key) e
 
 -- ---- keys in a row
 
@@ -56,9 +51,6 @@ pub record Filling (lengths : Bool) (s : List ℕ) (from n : ℕ) (old : List �
 pub filling-refused : (lengths : Bool) (s : List ℕ) (from n : ℕ) (old : List ℤ) → max_chunk_elements < n → old ≡ filled_from lengths s from n old
 unfolding filled_from
 filling-refused lengths s from n old h = rw (lt-leb n max_chunk_elements h)
-
-pub filling-none : {lengths : Bool} {s : List ℕ} {from n : ℕ} {old : List ℤ} → Filling lengths s from n old from 0 0 old
-filling-none = record { room = omega arith; stores = rw (sub-zero, sub-zero) storing-none }
 
 module _ {lengths : Bool} {s : List ℕ} {from n : ℕ} {old : List ℤ} {next i at : ℕ} {column : List ℤ} (f : Filling lengths s from n old next i at column) where
   -- no key is left

@@ -1,5 +1,7 @@
 // Keys in a row: Varint's body has them alone, RunLength's each with a length after it. One walk fills a column from both, since
 // the compiler inlines the finding of a key, which is long, only where it is called once, and is half as fast where it does not.
+#![tactic(auto)]
+
 ghost use Rattle.std.specs.Prelude.{◌≡◌, ◌+◌, ◌≤◌, ◌<◌, min, length, replicate};
 ghost use Rattle.std.proofs.lemmas.List.Edits.{sets};
 ghost use Rattle.varint.specs.Finding.{found_at};

@@ -1,6 +1,8 @@
 // Parts of a chunk at their places: storing here, reading a key in `load`, and in `block` how packed values are cut into blocks.
 // Each call that stores answers the place after what it stored; where that does not fit, it stores nothing and answers the place
 // that it was given.
+#![tactic(auto)]
+
 ghost use Rattle.std.specs.Prelude.{◌≡◌, ◌-◌, length};
 ghost use Rattle.format.specs.Keys.{key_bytes, zigzag};
 ghost use Rattle.format.specs.Standalone.{pack_outcome, uvarint_write_outcome};

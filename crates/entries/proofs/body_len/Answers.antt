@@ -1,0 +1,46 @@
+-- `body_len` meets its contract: within the limits, the sum of the parts. Entries of ten bytes at most, and codes of at most 64 bits, do not overflow.
+use mathlib.Core.Path.{sym}
+use Prim.Native.Nat.{◌+◌, ◌*◌, ◌≤◌}
+use native.Mathlib.Nat.{mul-le-mul}
+use native.Mathlib.Omega.{arith}
+use lib.ListN.{length}
+use borrow.Author.Rules.{rules}
+use Rattle.format.specs.Encodings.{max_chunk_elements, max_dictionary_cardinality}
+use Rattle.format.proofs.Lengths.Limits.{entries_len-most, code_width-le}
+use Rattle.format.proofs.Numbers.Widths.{uvarint_len-le}
+use Rattle.entries.proofs.Limits.{measured-long, measured-many, measured-parts}
+use Rattle.entries.proofs.body_len.Goals as goal
+use Rattle.entries.proofs.body_len.Goals.{After-entries_len}
+
+few : (c : After-entries_len) → c.args.count ≤ max_chunk_elements
+few c = search rules
+
+-- the varints: at most ten bytes each
+varints : (c : After-entries_len) → c.uvarint_len.result + c.entries_len.result ≤ 10 + 10 * max_dictionary_cardinality
+varints c =
+    let entries = c.args.entries.now in
+    omega (arith, c.uvarint_len.ensures, uvarint_len-le (length entries), c.entries_len.ensures, entries_len-most entries)
+
+-- the codes' bits
+bits : (c : After-entries_len) → c.args.count * c.code_width-width.result ≤ max_chunk_elements * 64
+bits c =
+    let narrow : c.code_width-width.result ≤ 64 = rw c.code_width-width.ensures (code_width-le _) in
+    mul-le-mul (few c) narrow
+
+pub returns-then-count-gt-MAX_CHUNK_ELEMENTS : goal.returns-then-count-gt-MAX_CHUNK_ELEMENTS
+returns-then-count-gt-MAX_CHUNK_ELEMENTS c = sym (measured-long _ _ c.if-count-gt-MAX_CHUNK_ELEMENTS.true)
+
+pub returns-then-entries-gt-MAX_DICTIONARY_CARDINALITY : goal.returns-then-entries-gt-MAX_DICTIONARY_CARDINALITY
+returns-then-entries-gt-MAX_DICTIONARY_CARDINALITY c = sym (measured-many _ _ c.if-count-gt-MAX_CHUNK_ELEMENTS.false c.if-entries-gt-MAX_DICTIONARY_CARDINALITY.true)
+
+pub returns : goal.returns
+returns c = measured-parts _ _ (few (goal.at.returns c).After-entries_len) c.if-entries-gt-MAX_DICTIONARY_CARDINALITY.false c.uvarint_len.ensures c.entries_len.ensures c.code_width-width.ensures
+
+pub overflow_add-result : goal.overflow_add-result
+overflow_add-result c = omega (arith, varints (goal.at.overflow_add-result c).After-entries_len)
+
+pub overflow_add-result-2 : goal.overflow_add-result-2
+overflow_add-result-2 c = omega (arith, varints (goal.at.overflow_add-result-2 c).After-entries_len)
+
+pub overflow_add-result-4 : goal.overflow_add-result-4
+overflow_add-result-4 c = omega (arith, varints (goal.at.overflow_add-result-4 c).After-entries_len, bits (goal.at.overflow_add-result-4 c).After-entries_len)
