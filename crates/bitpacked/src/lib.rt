@@ -1,4 +1,6 @@
 // Encoding 3, BitPacked: a width byte, and the ZigZags of the column packed at that width (the Rust's `BitPackedCodec`).
+#![tactic(auto)]
+
 ghost use Rattle.std.specs.Prelude.{◌≡◌, length};
 ghost use Rattle.format.specs.Header.{named};
 ghost use Rattle.format.specs.Read.{read_answer, read_column};

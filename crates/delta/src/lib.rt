@@ -1,5 +1,7 @@
 // Encoding 7, DeltaBinaryPacked: the first value, and blocks of bit-packed deltas, each with its own least delta (the Rust's
 // `DeltaBinaryPackedCodec`). Deltas are taken, and summed again, modulo 2^64.
+#![tactic(auto)]
+
 ghost use Rattle.std.specs.Prelude.{◌≡◌, length};
 ghost use Rattle.format.specs.Header.{named};
 ghost use Rattle.format.specs.Read.{read_answer, read_column};

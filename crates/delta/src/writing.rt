@@ -13,7 +13,7 @@ use places::block::{at_most, packed_bytes};
 use places::{put_packed, put_uvarint, put_varint};
 
 // The least and the greatest of some deltas.
-#[derive(Drop)]
+#[derive(Clone, Copy)]
 struct Bounds {
     low: i64,
     high: i64,

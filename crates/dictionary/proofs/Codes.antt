@@ -4,7 +4,7 @@ use mathlib.Core.Bool.{Bool, true, false, ◌&&◌}
 use mathlib.Core.List.{List, [], ◌∷◌, ◌++◌, map}
 use Prim.Native.Nat.{ℕ, zero, suc, ◌+◌, ◌-◌, ◌<◌, ◌≤◌, min, zero-le}
 use native.Mathlib.Decide.{dec_lt}
-use native.Mathlib.Nat.{add-zero, sub-zero}
+use native.Mathlib.Nat.{sub-zero}
 use native.Mathlib.Numerals.{add-one}
 use native.Mathlib.Omega.{arith}
 use lib.IntN.{ℤ, pos}
@@ -14,7 +14,7 @@ use lib.Seq.{drop-cons, drop-drop, drop-set-lt, sets}
 use borrow.Author.Tests.{lt-ltb, le-ltb, ltb-true}
 use Rattle.format.specs.Dictionary.{all_below}
 use Rattle.format.proofs.Numbers.All.{Below, all_none, all_more}
-use Rattle.format.proofs.Numbers.Stores.{Storing, storing-none, storing-one, storing-done}
+use Rattle.format.proofs.Numbers.Stores.{Storing, storing-one, storing-done}
 use Rattle.dictionary.specs.Reading.{picked, picked_all}
 
 -- ---- all below
@@ -165,9 +165,6 @@ picked_all_lem table later (c ∷ cs) (o ∷ os) h b =
 pub record Picking (done : ℕ) (table : List ℤ) (codes : List ℕ) (l : List ℤ) (from : ℕ) (column : List ℤ) (i : ℕ) : Type 0 where
   pub storing : Storing (picked_all done table codes (drop from l)) l from (picked_all done table (drop i codes) (drop (from + i) l)) column (from + i)
   pub untouched : drop (from + i) column ≡ drop (from + i) l
-
-pub picking-none : (done : ℕ) (table : List ℤ) (codes : List ℕ) (l : List ℤ) (from : ℕ) → Picking done table codes l from l 0
-picking-none done table codes l from = record { storing = rw (add-zero from) storing-none; untouched = refl }
 
 same_at : (a b : List ℤ) (k : ℕ) → drop k a ≡ drop k b → length a ≡ length b → get_or a k (pos 0) ≡ get_or b k (pos 0)
 same_at [] [] k e h = refl

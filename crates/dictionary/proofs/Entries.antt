@@ -13,7 +13,7 @@ use Rattle.format.specs.Varint.{uvarint_bytes, varint_bytes}
 use Rattle.format.specs.Dictionary.{gap_bytes, entry_bytes}
 use Rattle.format.specs.Standalone.{uvarint_write_outcome}
 use Rattle.format.proofs.Numbers.Uvarints.{length-uvarint_bytes}
-use Rattle.format.proofs.Numbers.Stores.{sets-append, Storing, storing-none, storing-part, storing-room, storing-done, storing-end}
+use Rattle.format.proofs.Numbers.Stores.{sets-append, Storing, storing-part, storing-room, storing-done, storing-end}
 use Rattle.places.specs.Places.{laid, laid_end}
 use Rattle.places.proofs.Placing.{uvarint-laid}
 
@@ -76,9 +76,6 @@ module _ (entries : List ℤ) (output : List ℕ) (start : ℕ) (some : 0 < leng
     gaps-room : from + length gaps ≤ length l
     gaps-room = omega (arith, stored-first.0, room, long, ap length stored-first.1, length-sets output start (uvarint_bytes (zigzag first)))
 
-    pub putting-first : Putting entries first l from first l from 1
-    putting-first = record { upto = some; storing = storing-none }
-
     module _ {last : ℤ} {out : List ℕ} {at i : ℕ} (g : Putting entries first l from last out at i) where
       pub putting-more : {entry : ℤ} {x end : ℕ} {next : List ℕ} → i < length entries → entry ≡ get_or entries i (pos 0) → x ≡ gap last entry
           → (end ≡ laid_end (uvarint_write_outcome x (length out - at)) at) × (next ≡ laid (uvarint_write_outcome x (length out - at)) at out)
@@ -98,6 +95,3 @@ module _ (entries : List ℤ) (output : List ℕ) (start : ℕ) (some : 0 < leng
                 ∙ sym (sets-append (uvarint_bytes (zigzag first)) gaps output start)
                 ∙ ap (sets output start) (sym both),
           )
-
-      pub putting-long : length out ≡ length output
-      putting-long = g.storing.long ∙ ap length stored-first.1 ∙ length-sets output start (uvarint_bytes (zigzag first))

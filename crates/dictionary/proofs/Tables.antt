@@ -21,7 +21,6 @@ use Rattle.format.proofs.Numbers.Digits.{below-digits}
 use Rattle.format.proofs.Numbers.Stores.{sets-stored}
 use Rattle.varint.specs.Finding.{found_at}
 use Rattle.varint.specs.declared.find.Found.{Found}
-use Rattle.places.specs.Packed.{Inside}
 use Rattle.dictionary.specs.Reading.{entries_at, picked_all, ReadBody}
 use Rattle.dictionary.proofs.Codes.{below-min, length-picked, picked-tables, picked_none, picked-front, picked_all_lem}
 use Rattle.dictionary.proofs.ReadEntries.{last_or, last-append, last-at, length-values, values-add, after-add, length-entries, entries-append, entries-are}
@@ -146,16 +145,8 @@ codes-below s at w count = below-digits (2 ^ w) count (of_digits 256 (drop at s)
 module _ {s : List ℕ} {start count : ℕ} (b : ReadBody s start count) {total : Found} (et : total ≡ found_at s start)
     {place : ℕ} (ep : place ≡ after_uvarints s total.next total.value)
   where
-    -- its codes are there
-    pub body-codes : Inside s place count
-    body-codes = rw (ep, et) b.codes
-
     module _ {used : ℕ} (eu : used ≡ min total.value (2 ^ get_or s place 0)) where
-      -- the entries in their reach are no more than the chunk has bytes
-      pub body-room : used ≤ length s
-      body-room = let most : total.value ≤ length s = rw et b.entries in omega arith
-
-      -- and with these each code has its value
+      -- with the entries in their reach each code has its value
       pub body-values : (l : List ℤ) {out : List ℤ} → count ≤ length l
           → out ≡ sets l 0 (picked_all 0 (entries_at 0 (pos 0) (uvarint_values s total.next used)) (packed_values s (place + 1) (get_or s place 0) count) l)
           → out ≡ stored (dictionary_values s start count) l

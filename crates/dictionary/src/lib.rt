@@ -1,5 +1,7 @@
 // 6. Dictionary: entry total, first entry as a signed varint, gaps as varints, width byte, packed codes (the Rust's
 // `DictionaryCodec`).
+#![tactic(auto)]
+
 ghost use Rattle.format.specs.Header.{named};
 ghost use Rattle.format.specs.Read.{read_answer, read_column};
 ghost use Rattle.format.specs.Write.{write_answer, write_output, write_scratch};

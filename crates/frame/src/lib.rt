@@ -1,5 +1,7 @@
 // Encoding 4, FrameOfReference: the least value, a width byte, and the differences from the least value packed at that width (the
 // Rust's `FrameOfReferenceCodec`).
+#![tactic(auto)]
+
 ghost use Rattle.std.specs.Prelude.{◌≡◌, length};
 ghost use Rattle.format.specs.Header.{named};
 ghost use Rattle.format.specs.Read.{read_answer, read_column};

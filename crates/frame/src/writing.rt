@@ -9,7 +9,7 @@ use places::block::block_len;
 use places::{put_key, put_packed};
 
 // The least value, and the width of the largest difference from it.
-#[derive(Drop)]
+#[derive(Clone, Copy)]
 pub(crate) struct Fit {
     pub least: i64,
     pub width: u32,

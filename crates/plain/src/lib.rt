@@ -1,4 +1,6 @@
 // 1. Plain: eight bytes a value, little-endian (the Rust's `PlainCodec`).
+#![tactic(auto)]
+
 ghost use Rattle.std.specs.Prelude.{◌≡◌, ◌+◌, ◌*◌, ◌≤◌, length};
 ghost use Rattle.std.proofs.lemmas.List.Edits.{sets};
 ghost use Rattle.format.specs.Answers.{stored};

@@ -1,5 +1,7 @@
 // Encoding 5, RunLength: the Rust's `RunLengthCodec`. There is no `Vec` of runs here: they are counted, measured
 // where the output could be too short, and stored.
+#![tactic(auto)]
+
 ghost use Rattle.std.specs.Prelude.{◌≡◌, length};
 ghost use Rattle.format.specs.Header.{named};
 ghost use Rattle.format.specs.Read.{read_answer, read_column};

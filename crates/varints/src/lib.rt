@@ -1,4 +1,6 @@
 // 2. Varint: one signed varint each (the Rust's `VarintCodec`).
+#![tactic(auto)]
+
 ghost use Rattle.std.specs.Prelude.{◌≡◌, true, false, ℕ, ◌+◌, ◌≤◌, length};
 ghost use Rattle.std.proofs.lemmas.List.Edits.{sets};
 ghost use Rattle.format.specs.Encodings.{max_chunk_elements};

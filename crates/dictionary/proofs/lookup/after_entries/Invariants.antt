@@ -1,0 +1,11 @@
+-- What is left to walk leads to where the whole leads.
+use mathlib.Core.Path.{◌≡◌}
+use Prim.Native.Nat.{◌-◌}
+use Rattle.format.specs.Varint.{after_uvarints}
+use Rattle.dictionary.proofs.lookup.after_entries.Given as goal
+
+abbrev pub invariant-loop-i : goal.invariant-loop-i
+invariant-loop-i l = after_uvarints l.chunk l.at (l.n - l.i) ≡ after_uvarints l.chunk l.from l.n
+
+abbrev pub decreases-loop-i : goal.decreases-loop-i
+decreases-loop-i l = l.n - l.i

@@ -1,0 +1,6 @@
+-- The least and the greatest value of what was walked over and what is left are the column's (`Bounded`).
+use Rattle.frame.proofs.Bounds.{Bounded}
+use Rattle.frame.proofs.writing.fit_of.Given as goal
+
+abbrev pub invariant-loop-i : goal.invariant-loop-i
+invariant-loop-i l = Bounded l.column l.least l.greatest l.i
