@@ -1,5 +1,7 @@
 // The seven candidate lengths of a column: the Rust's `estimate_sizes`. They are made of the column's statistics and distinct
 // values, and handed on with the statistics, so that a plan analyses the column once.
+#![tactic(auto)]
+
 ghost use Rattle.std.specs.Prelude.{◌≡◌, ◌≤◌, length};
 ghost use Rattle.format.specs.Encodings.{max_dictionary_cardinality};
 ghost use Rattle.format.specs.Estimates.{is_exact, estimates_from, refused_estimates};
@@ -12,7 +14,7 @@ use format::{Answer, Cardinality, IntegerStats, SizeEstimates};
 pub(crate) mod sizes;
 
 // What a call for statistics and one for estimates give, of one analysis: both refuse the same.
-#[derive(Drop)]
+#[derive(Clone, Copy)]
 pub struct Surveyed {
     pub answer: Answer,
     pub stats: IntegerStats,

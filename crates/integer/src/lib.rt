@@ -1,5 +1,7 @@
 // The two public calls of the Rust's integer.rs, `encode_integers` and `decode_integers`, and the reading that names its encoding.
 // The Rust's trait `Codec` is a match on `Encoding`.
+#![tactic(auto)]
+
 ghost use Rattle.std.specs.Prelude.{◌≡◌, length};
 ghost use Rattle.format.specs.Answers.{stored_answer, buffer_after};
 ghost use Rattle.format.specs.Encodings.{id_of};

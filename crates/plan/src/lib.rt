@@ -1,5 +1,7 @@
 // Estimates and the plan of a column: the Rust's `estimate_sizes`, `choose_integer_encoding` and `analyze`, and the gain of
 // its `CompressionLevel`.
+#![tactic(auto)]
+
 ghost use Rattle.std.specs.Prelude.{◌≡◌, length};
 ghost use Rattle.format.specs.Statistics.{analysis_scratch};
 ghost use Rattle.format.specs.Estimates.{estimates_answer};

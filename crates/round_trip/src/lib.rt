@@ -1,4 +1,6 @@
 // The third demand: a column is planned, written in the encoding planned, and read back from the bytes that were written.
+#![tactic(auto)]
+
 ghost use Rattle.std.specs.Prelude.{◌≡◌, length};
 ghost use Rattle.format.specs.Answers.{buffer_after};
 ghost use Rattle.format.specs.Plan.{plan_scratch};
@@ -10,7 +12,7 @@ use format::{Answer, PlanAnswer};
 use plan::analyze;
 
 // What a step answered, or that it did not run, since one before it was refused.
-#[derive(Drop)]
+#[derive(Clone, Copy)]
 pub enum Step {
     NotRun,
     Accepted(usize),
@@ -18,7 +20,7 @@ pub enum Step {
 }
 
 // What planning, writing and reading answered.
-#[derive(Drop)]
+#[derive(Clone, Copy)]
 pub struct Trip {
     pub planned: PlanAnswer,
     pub written: Step,

@@ -1,5 +1,7 @@
 // Statistics of a column: the Rust's `analyze_integers`. The record is made in one pass, but for the cardinality: the distinct
 // values, which the Rust keeps in a `HashSet`, are collected in the scratch by a pass of their own.
+#![tactic(auto)]
+
 ghost use Rattle.std.specs.Prelude.{◌≡◌, length};
 ghost use Rattle.format.specs.Statistics.{stats_answer, analysis_scratch, distinct_values_part};
 

@@ -7,7 +7,7 @@ ghost use Rattle.stats.specs.Pass.{first_values, next_values, next_runs, first_d
 use number::{greater, lesser};
 
 // Of the values so far: the least and the greatest, the largest ZigZag, and the bytes of their varints.
-#[derive(Drop)]
+#[derive(Clone, Copy)]
 pub(crate) struct Values {
     pub low: i64,
     pub high: i64,
@@ -16,7 +16,7 @@ pub(crate) struct Values {
 }
 
 // The runs so far, the bytes of their keys and of all lengths but the last, and that length.
-#[derive(Drop)]
+#[derive(Clone, Copy)]
 pub(crate) struct Runs {
     pub count: usize,
     pub bytes: usize,
@@ -24,7 +24,7 @@ pub(crate) struct Runs {
 }
 
 // Whether no step so far went down, and none up; and the least and the greatest delta.
-#[derive(Drop)]
+#[derive(Clone, Copy)]
 pub(crate) struct Steps {
     pub ascending: bool,
     pub descending: bool,
@@ -32,7 +32,7 @@ pub(crate) struct Steps {
     pub high: i64,
 }
 
-#[derive(Drop)]
+#[derive(Clone, Copy)]
 pub(crate) struct Pass {
     pub values: Values,
     pub run_count: usize,

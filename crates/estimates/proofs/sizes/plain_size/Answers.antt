@@ -1,0 +1,12 @@
+-- `plain_size` meets its contract: the sum of header and values.
+use native.Mathlib.Omega.{arith}
+use Rattle.format.specs.Estimates.{plain_estimate}
+use Rattle.estimates.proofs.Parts.{header-most}
+use Rattle.estimates.proofs.sizes.plain_size.Goals as goal
+
+pub overflow_add-result : goal.overflow_add-result
+overflow_add-result c = omega (arith, header-most _ c.header_len.ensures)
+
+pub returns : goal.returns
+unfolding plain_estimate
+returns c = omega (arith, c.header_len.ensures)

@@ -1,0 +1,27 @@
+-- `record::stats_of` meets its contract, field by field: what the pass gives, and what the calls make of it.
+use mathlib.Core.Path.{◌∙◌}
+use lib.IntN.{pos}
+use lib.ListN.{get_or}
+use borrow.Author.Rules.{rules}
+use Rattle.format.specs.Keys.{gap}
+use Rattle.number.proofs.Signed.{held}
+use Rattle.stats.proofs.Fields.{result-of}
+use Rattle.stats.proofs.Recording.{stats-none, stats-made}
+use Rattle.stats.proofs.record.stats_of.Goals as goal
+
+pub returns-then-column-eq0 : goal.returns-then-column-eq0
+returns-then-column-eq0 c = c.refused_stats.ensures ∙ stats-none _ c.if-column-eq0.true
+
+pub returns : goal.returns
+returns c =
+    let p = c.walk-pass.result in
+    rw (
+      held (get_or c.args.column.now 0 (pos 0)) (search rules),
+      held p.values.low (search rules),
+      held p.values.high (search rules),
+      held p.steps.low (search rules),
+      held p.steps.high (search rules),
+    )
+    (stats-made _ p c.if-column-eq0.false c.walk-pass.ensures c.requires.1 c.sortedness_of.ensures
+    (result-of gap p.values.low p.values.high (search rules) (search rules) c.gap.ensures)
+    (result-of gap p.steps.low p.steps.high (search rules) (search rules) c.gap-2.ensures))
