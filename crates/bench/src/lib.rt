@@ -1,8 +1,10 @@
-// Varints in a row, for tools/bench alone: `rt staticlib bench` writes target/staticlib/libbench.a. The crate c_api exports a varint
+// Varints in a row, for tools/bench alone: `tools/library bench` writes target/staticlib/libbench.a. The crate c_api exports a varint
 // at a time, and a call into a library for each would be most of what is timed, so these loops stand inside it. They store as many as
 // they can and tell how many, but not why they stopped. For all else tools/bench calls c_api.
 //
 // The driver passes a slice as two arguments, a pointer and a count of elements.
+#![tactic(auto)]
+
 ghost use Rattle.std.specs.Prelude.{◌≡◌, length};
 ghost use Rattle.format.specs.Answers.{stored};
 ghost use Rattle.bench.specs.Rows.{row_values, row_bytes};

@@ -1,9 +1,11 @@
-// The C interface: what include/warpboulder.h declares. `rt staticlib c_api` writes target/staticlib/libc_api.a. Each call hands on
+// The C interface: what include/warpboulder.h declares. `tools/library c_api` writes target/staticlib/libc_api.a. Each call hands on
 // what a proved call answers and leaves; nothing is decided here.
 //
 // A caller in C passes a slice as two arguments, a pointer and a count of elements, and `&mut usize` as a pointer. An enum does not
 // cross `extern "C"`: of an answer the number is returned, and the count or the offset is stored through the last pointer. Nor is a
 // pointer to a struct a form that the borrow checker covers, so a record is a row of 64-bit numbers here (`rows`) and a struct in the header.
+#![tactic(auto)]
+
 ghost use Rattle.std.specs.Prelude.{◌≡◌};
 ghost use Rattle.c_api.specs.Told.{told};
 
@@ -13,7 +15,7 @@ pub mod chunks;
 pub mod columns;
 pub mod numbers;
 pub mod packing;
-pub mod varints;
+pub mod varint_calls;
 
 // An answer's number: 0 where it is accepted.
 pub(crate) fn number_of(answer: Answer) -> u32

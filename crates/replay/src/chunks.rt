@@ -7,6 +7,7 @@ use crate::{buffers, text};
 use format::Answer;
 use format::limits::MAX_CHUNK_ELEMENTS;
 use format::refusal::BUFFER_TOO_SHORT;
+use std::io;
 
 // The name of a reading that names no encoding.
 pub(crate) const UNNAMED: u32 = 0;
@@ -30,17 +31,18 @@ pub(crate) fn holds(kind: usize, record: &[u8], held: &mut [u64; COUNTS]) -> boo
     }
 }
 
-pub(crate) fn report(place: usize, n: u64) {
+pub(crate) fn report(rt: &impl Print, place: usize, n: u64) -> io::Result<()> {
     match place {
-        1 => text::count(b"chunks, their values stored: ", n),
-        2 => text::count(b"chunks, a checksum of their values stored: ", n),
-        ACCEPTED => text::count(b"readings accepted: ", n),
-        REFUSED => text::count(b"readings refused: ", n),
+        1 => text::count(rt, "chunks, their values stored: ", n),
+        2 => text::count(rt, "chunks, a checksum of their values stored: ", n),
+        ACCEPTED => text::count(rt, "readings accepted: ", n),
+        REFUSED => text::count(rt, "readings refused: ", n),
         LARGE => text::count(
-            b"readings of 2^24 values, refused for our shorter column alone: ",
+            rt,
+            "readings of 2^24 values, refused for our shorter column alone: ",
             n,
         ),
-        _ => {}
+        _ => Ok(()),
     }
 }
 

@@ -6,7 +6,8 @@ ghost use Rattle.std.specs.Prelude.{◌≤◌};
 use crate::buffers::KEYS;
 use crate::fields::{after, u8_at, u32_at};
 use crate::records::COUNTS;
-use crate::{analysed, buffers, keys, planned, text, written};
+use crate::{analysed, buffers, planned, stored_keys, text, written};
+use std::io;
 
 pub(crate) fn holds(kind: usize, record: &[u8], held: &mut [u64; COUNTS]) -> bool {
     match kind {
@@ -17,18 +18,18 @@ pub(crate) fn holds(kind: usize, record: &[u8], held: &mut [u64; COUNTS]) -> boo
     }
 }
 
-pub(crate) fn report(place: usize, n: u64) {
+pub(crate) fn report(rt: &impl Print, place: usize, n: u64) -> io::Result<()> {
     match place {
-        1 => text::count(b"columns, stored: ", n),
-        2 => text::count(b"columns, described: ", n),
-        3 => text::count(b"encodings that write no keys: ", n),
-        _ => report_more(place, n),
+        1 => text::count(rt, "columns, stored: ", n),
+        2 => text::count(rt, "columns, described: ", n),
+        3 => text::count(rt, "encodings that write no keys: ", n),
+        _ => report_more(rt, place, n),
     }
 }
 
-fn report_more(place: usize, n: u64) {
-    planned::report(place, n);
-    written::report(place, n);
+fn report_more(rt: &impl Print, place: usize, n: u64) -> io::Result<()> {
+    planned::report(rt, place, n)?;
+    written::report(rt, place, n)
 }
 
 // Kind 1, a column and its chunks, stored; kind 2, a column by its formula, and its chunks by their lengths and checksums.
@@ -59,7 +60,7 @@ fn load(r: &[u8], is_stored: bool, column: &mut [i64]) {
             column,
         );
     } else {
-        keys::make(r, after_plans(r), column);
+        stored_keys::make(r, after_plans(r), column);
     }
 }
 

@@ -3,6 +3,7 @@
 use crate::fields::{after, answer_is, same_bytes, u8_at, u16_at, u64_at};
 use crate::{packing, text};
 use format::{Answer, UvarintAnswer, VarintAnswer};
+use std::io;
 
 pub(crate) fn holds(kind: usize, record: &[u8]) -> bool {
     match kind {
@@ -12,11 +13,11 @@ pub(crate) fn holds(kind: usize, record: &[u8]) -> bool {
     }
 }
 
-pub(crate) fn report(place: usize, n: u64) {
+pub(crate) fn report(rt: &impl Print, place: usize, n: u64) -> io::Result<()> {
     match place {
-        1 => text::count(b"numbers: ", n),
-        2 => text::count(b"varints read: ", n),
-        _ => packing::report(place, n),
+        1 => text::count(rt, "numbers: ", n),
+        2 => text::count(rt, "varints read: ", n),
+        _ => packing::report(rt, place, n),
     }
 }
 

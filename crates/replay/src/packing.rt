@@ -4,6 +4,7 @@ use crate::fields::{after, answer_is, u8_at, u32_at, u64_at};
 use crate::made::VALUES;
 use crate::{made, text};
 use format::Answer;
+use std::io;
 
 // What a buffer of values holds before a call: the bits of a key that is old.
 const OLD: u64 = 0x5a5a_5a5a_5a5a_5a5a;
@@ -22,13 +23,13 @@ pub(crate) fn holds(kind: usize, record: &[u8]) -> bool {
     }
 }
 
-pub(crate) fn report(place: usize, n: u64) {
+pub(crate) fn report(rt: &impl Print, place: usize, n: u64) -> io::Result<()> {
     match place {
-        3 => text::count(b"packings: ", n),
-        4 => text::count(b"unpackings: ", n),
-        5 => text::count(b"packed lengths: ", n),
-        6 => text::count(b"packings of many values, and back: ", n),
-        _ => {}
+        3 => text::count(rt, "packings: ", n),
+        4 => text::count(rt, "unpackings: ", n),
+        5 => text::count(rt, "packed lengths: ", n),
+        6 => text::count(rt, "packings of many values, and back: ", n),
+        _ => Ok(()),
     }
 }
 

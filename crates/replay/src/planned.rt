@@ -5,14 +5,16 @@ use crate::fields::{after, has_bits, u8_at, u16_at, u64_at};
 use crate::records::{COUNTS, counted, place_of};
 use crate::text;
 use format::{EncodingPlan, PlanReason};
+use std::io;
 
 // The place after those of the chunks.
 const PLANNED: usize = 6;
 
-pub(crate) fn report(place: usize, n: u64) {
+pub(crate) fn report(rt: &impl Print, place: usize, n: u64) -> io::Result<()> {
     if place == PLANNED {
-        text::count(b"plans, at the levels 0 to 9: ", n);
+        text::count(rt, "plans, at the levels 0 to 9: ", n)?;
     }
+    Ok(())
 }
 
 // The ten plans; each leaves the scratch as the call for statistics left it.

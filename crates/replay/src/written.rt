@@ -12,6 +12,7 @@ use crate::records::{COUNTS, WRONG, counted, place_of};
 use crate::text;
 use format::limits::MAX_DICTIONARY_CARDINALITY;
 use format::refusal::{BUFFER_TOO_SHORT, TOO_MANY_DISTINCT};
+use std::io;
 
 const DICTIONARY: u32 = 6;
 
@@ -20,14 +21,15 @@ const WRITTEN: usize = 4;
 
 const TOO_MANY: usize = 5;
 
-pub(crate) fn report(place: usize, n: u64) {
+pub(crate) fn report(rt: &impl Print, place: usize, n: u64) -> io::Result<()> {
     match place {
-        WRITTEN => text::count(b"chunks written, and read back in four ways: ", n),
+        WRITTEN => text::count(rt, "chunks written, and read back in four ways: ", n),
         TOO_MANY => text::count(
-            b"Dictionary chunks of too many distinct values, refused: ",
+            rt,
+            "Dictionary chunks of too many distinct values, refused: ",
             n,
         ),
-        _ => {}
+        _ => Ok(()),
     }
 }
 

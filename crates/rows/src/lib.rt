@@ -1,5 +1,7 @@
 // The records as rows of 64-bit numbers, for the C interface: in the order of the fields of the structs in include/warpboulder.h. They stand
 // in a crate of their own, below `c_api`, so that an edit of a row is checked without the codecs.
+#![tactic(auto)]
+
 ghost use Rattle.std.specs.Prelude.{◌≡◌};
 ghost use Rattle.format.specs.Estimates.{is_exact};
 ghost use Rattle.rows.specs.Rows.{sortedness_number, cardinality_count, reason_number};

@@ -3,79 +3,84 @@
 use crate::text;
 use format::{Answer, PlanAnswer};
 use round_trip::Step;
+use std::io;
 
 const LEAST: i64 = -9223372036854775808;
 
 const GREATEST: i64 = 9223372036854775807;
 
-pub(crate) fn show() {
-    text::title(b"Columns planned, written in the encoding planned, and read back (document 01)");
-    enough(b"0, at level 6:", &[0], 6);
-    enough(b"5 5 5 5, at level 6:", &[5, 5, 5, 5], 6);
-    enough(b"5 5 5 5, at level 0:", &[5, 5, 5, 5], 0);
+pub(crate) fn show(rt: &impl Print) -> io::Result<()> {
+    text::title(
+        rt,
+        "Columns planned, written in the encoding planned, and read back (document 01)",
+    )?;
+    enough(rt, "0, at level 6:", &[0], 6)?;
+    enough(rt, "5 5 5 5, at level 6:", &[5, 5, 5, 5], 6)?;
+    enough(rt, "5 5 5 5, at level 0:", &[5, 5, 5, 5], 0)?;
     enough(
-        b"the least and the greatest key, at level 4:",
+        rt,
+        "the least and the greatest key, at level 4:",
         &[LEAST, GREATEST],
         4,
-    );
+    )?;
     enough(
-        b"the least and the greatest key, at level 3:",
+        rt,
+        "the least and the greatest key, at level 3:",
         &[LEAST, GREATEST],
         3,
-    );
-    enough(b"0, at level 10:", &[0], 10);
-    enough(b"1 2 3 4 5, at level 6:", &[1, 2, 3, 4, 5], 6);
-    short(b"5 5 5 5, at level 6, to five bytes:", &[5, 5, 5, 5], 6);
+    )?;
+    enough(rt, "0, at level 10:", &[0], 10)?;
+    enough(rt, "1 2 3 4 5, at level 6:", &[1, 2, 3, 4, 5], 6)?;
+    short(rt, "5 5 5 5, at level 6, to five bytes:", &[5, 5, 5, 5], 6)
 }
 
 // With an output that is long enough.
-fn enough(what: &[u8], column: &[i64], level: u32) {
+fn enough(rt: &impl Print, what: &str, column: &[i64], level: u32) -> io::Result<()> {
     let mut out = [0u8; 40];
-    trip(what, column, level, &mut out);
+    trip(rt, what, column, level, &mut out)
 }
 
-fn short(what: &[u8], column: &[i64], level: u32) {
+fn short(rt: &impl Print, what: &str, column: &[i64], level: u32) -> io::Result<()> {
     let mut out = [0u8; 5];
-    trip(what, column, level, &mut out);
+    trip(rt, what, column, level, &mut out)
 }
 
-fn trip(what: &[u8], column: &[i64], level: u32, out: &mut [u8]) {
+fn trip(rt: &impl Print, what: &str, column: &[i64], level: u32, out: &mut [u8]) -> io::Result<()> {
     let mut scratch = [77i64; 5];
     let mut back = [77i64; 4];
     let trip = round_trip::round_trip(column, level, true, true, &mut scratch, out, &mut back);
     let written = trip.written;
     let read = trip.read;
-    text::word(what);
-    planned(trip.planned);
-    text::word(b"; written:");
-    step(written);
-    text::bytes(out, count_of(written));
-    text::word(b"; read:");
-    step(read);
-    keys(&back);
-    text::line(b"");
+    text::word(rt, what)?;
+    planned(rt, trip.planned)?;
+    text::word(rt, "; written:")?;
+    step(rt, written)?;
+    text::bytes(rt, out, count_of(written))?;
+    text::word(rt, "; read:")?;
+    step(rt, read)?;
+    keys(rt, &back)?;
+    text::line(rt, "")
 }
 
-fn planned(found: PlanAnswer) {
+fn planned(rt: &impl Print, found: PlanAnswer) -> io::Result<()> {
     let answer = found.answer;
     let Answer::Accepted(_) = answer else {
-        text::answer(answer);
-        return;
+        return text::answer(rt, answer);
     };
     let plan = found.plan;
     let encoding = plan.encoding;
-    text::word(b" encoding ");
-    text::unsigned(codec::encoding_id(encoding) as u64);
-    text::word(b" of ");
-    text::unsigned(plan.estimated_bytes as u64);
-    text::word(b" bytes");
+    text::word(rt, " encoding ")?;
+    text::unsigned(rt, codec::encoding_id(encoding) as u64)?;
+    text::word(rt, " of ")?;
+    text::unsigned(rt, plan.estimated_bytes as u64)?;
+    text::word(rt, " bytes")
 }
 
-fn step(answer: Step) {
+fn step(rt: &impl Print, answer: Step) -> io::Result<()> {
     match answer {
-        Step::NotRun => text::word(b" not run"),
-        Step::Accepted(count) => text::answer(Answer::Accepted(count)),
-        Step::Refused(number, offset) => text::answer(Answer::Refused(number, offset)),
+        Step::NotRun => text::word(rt, " not run"),
+        Step::Accepted(count) => text::answer(rt, Answer::Accepted(count)),
+        Step::Refused(number, offset) => text::answer(rt, Answer::Refused(number, offset)),
     }
 }
 
@@ -88,12 +93,11 @@ fn count_of(answer: Step) -> usize {
 }
 
 // Each key with a space before it, after a colon.
-fn keys(keys: &[i64]) {
-    text::word(b":");
-    let mut i = 0;
-    while i < keys.len() {
-        text::word(b" ");
-        text::signed(keys[i]);
-        i += 1;
+fn keys(rt: &impl Print, keys: &[i64]) -> io::Result<()> {
+    text::word(rt, ":")?;
+    for key in keys {
+        text::word(rt, " ")?;
+        text::signed(rt, *key)?;
     }
+    Ok(())
 }
