@@ -1,4 +1,4 @@
-//! Provides the proved library that the crate links, libc_api.a: `rt staticlib c_api` proves and writes it at the
+//! Provides the proved library that the crate links, libc_api.a: `tools/library c_api` proves and writes it at the
 //! repository's top, unless WARPBOULDER_LIBRARY names a folder that has it.
 
 use std::path::{Path, PathBuf};
@@ -6,6 +6,8 @@ use std::process::{Command, Output};
 use std::{env, fs, io, process};
 
 const LIBRARY: &str = "libc_api.a";
+/// Proves and builds it, seen from the repository's top.
+const BUILDER: &str = "tools/library";
 const FOLDER_VARIABLE: &str = "WARPBOULDER_LIBRARY";
 /// How many lines of the prover's output a failure shows.
 const LINES_SHOWN: usize = 20;
@@ -25,7 +27,7 @@ fn link_library() -> Result<(), String> {
         Some(folder) if !folder.is_empty() => given_library(Path::new(&folder))?,
         _ => proved_library()?,
     };
-    // A copy, because the kit removes its target folder when it starts from nothing.
+    // A copy, because the folder target may be removed while cargo still has what it built.
     let folder = PathBuf::from(variable("OUT_DIR")?);
     fs::copy(&library, folder.join(LIBRARY))
         .map_err(|error| format!("{} cannot be copied to {}: {error}.", library.display(), folder.display()))?;
@@ -65,9 +67,8 @@ fn given_library(folder: &Path) -> Result<PathBuf, String> {
 
 fn proved_library() -> Result<PathBuf, String> {
     let top = repository_top()?;
-    println!("cargo:rerun-if-changed={}", top.join("crates").display());
-    println!("cargo:rerun-if-changed={}", top.join("crates.txt").display());
-    let output = Command::new("rt").args(["staticlib", "c_api"]).current_dir(&top).output().map_err(cannot_start)?;
+    watch_sources(&top)?;
+    let output = Command::new(top.join(BUILDER)).arg("c_api").current_dir(&top).output().map_err(cannot_start)?;
     if !output.status.success() {
         return Err(not_proved(&output));
     }
@@ -75,7 +76,25 @@ fn proved_library() -> Result<PathBuf, String> {
     if library.is_file() {
         return Ok(library);
     }
-    Err(format!("'rt staticlib c_api' ended well and wrote no {}.", library.display()))
+    Err(format!("'{BUILDER} c_api' ended well and wrote no {}.", library.display()))
+}
+
+/// Has cargo ask again where the sources of the library change. What `rt` builds lies among them, in crates/*/out, so
+/// the folder crates is not named as a whole.
+fn watch_sources(top: &Path) -> Result<(), String> {
+    println!("cargo:rerun-if-changed={}", top.join("crates.txt").display());
+    let crates = top.join("crates");
+    let cannot_read = |error: io::Error| format!("{} cannot be read: {error}.", crates.display());
+    for entry in fs::read_dir(&crates).map_err(cannot_read)? {
+        let folder = entry.map_err(cannot_read)?.path();
+        for part in ["src", "specs", "proofs"] {
+            let part = folder.join(part);
+            if part.is_dir() {
+                println!("cargo:rerun-if-changed={}", part.display());
+            }
+        }
+    }
+    Ok(())
 }
 
 /// Two folders up from this crate.
@@ -92,13 +111,9 @@ fn repository_top() -> Result<PathBuf, String> {
 }
 
 fn cannot_start(error: io::Error) -> String {
-    let reason = match error.kind() {
-        io::ErrorKind::NotFound => "its command 'rt' is not on the PATH".to_string(),
-        _ => format!("its command 'rt' cannot be started: {error}"),
-    };
     format!(
-        "the Rattle kit is needed to prove and build {LIBRARY}, and {reason}; \
-         install it, or set {FOLDER_VARIABLE} to a folder that has {LIBRARY}."
+        "'{BUILDER}', which proves and builds {LIBRARY}, cannot be started: {error}; \
+         mend that, or set {FOLDER_VARIABLE} to a folder that has {LIBRARY}."
     )
 }
 
@@ -108,7 +123,8 @@ fn not_proved(output: &Output) -> String {
     let lines: Vec<&str> = text.lines().collect();
     let last = &lines[lines.len().saturating_sub(LINES_SHOWN)..];
     format!(
-        "'rt staticlib c_api' did not prove and build the library ({}). The last lines of its output:\n{}",
+        "'{BUILDER} c_api' did not prove and build the library ({}); where the Rattle kit is not at hand, set \
+         {FOLDER_VARIABLE} to a folder that has {LIBRARY}. The last lines of its output:\n{}",
         output.status,
         last.join("\n")
     )

@@ -1,6 +1,7 @@
 """tools/oracle/definitions: runs our definitions on the stored answers of the original Rust. See docs/ORACLE.md."""
 
 import argparse
+import os
 import shutil
 import sys
 import time
@@ -92,6 +93,9 @@ def report_failing(equations, messages):
 def main():
     options = arguments()
     root = Path(__file__).resolve().parents[3]
+    place = Path(os.environ.get("WARPBOULDER_DEFINITIONS_BUILD") or f"/tmp/warpboulder-definitions-{os.getuid()}").resolve()
+    if root in [place, *place.parents]:
+        fail(f"the folder {place} lies inside the tree; set WARPBOULDER_DEFINITIONS_BUILD to another.")
     if not shutil.which("rt"):
         fail("rt, Rattle's checker, is not installed or not in the path.")
     records = read_records(root / "crates" / "replay" / "data", options.quick)
@@ -101,8 +105,8 @@ def main():
     equations = [x for x in made if isinstance(x, making.Equation)]
 
     start = time.monotonic()
-    scratch.build(root, root / "target" / "definitions", equations)
-    proved, messages, unexplained = scratch.check(root / "target" / "definitions")
+    scratch.build(root, place, equations)
+    proved, messages, unexplained = scratch.check(place)
     seconds = time.monotonic() - start
     if unexplained:
         print(unexplained)

@@ -112,8 +112,8 @@ def of_varint_read(r):
         return f"refused {r.answer.number} {r.answer.offset}" if r.answer.number else f"ok ({value}, {r.next})"
 
     asked, case = f"{numbers(r.data)} {r.place}", f"{hexed(r.data)} read at {r.place}"
-    yield equation("uvarint_answer", ALONE, f"unsignedRead (uvarint_answer {asked})", outcome(r.value), case)
-    yield equation("varint_answer", ALONE, f"signedRead (varint_answer {asked})", outcome(key(r.signed)), case)
+    yield equation("uvarint_answer", ALONE, f"unsigned_read (uvarint_answer {asked})", outcome(r.value), case)
+    yield equation("varint_answer", ALONE, f"signed_read (varint_answer {asked})", outcome(key(r.signed)), case)
 
 
 def of_packing(r):
@@ -121,7 +121,7 @@ def of_packing(r):
     case = f"width {r.width}, values {listed(r.values)}"
     asked = f"pack_answer {values} {r.width} {space}"
     if r.answer.offset is None:
-        yield equation("pack_answer", ALONE, f"numberOf ({asked})", r.answer.number, case)
+        yield equation("pack_answer", ALONE, f"number_of ({asked})", r.answer.number, case)
     else:
         yield equation("pack_answer", ALONE, asked, answer(r.answer, len(r.packed)), case)
         yield of_bytes("packed", ALONE, f"packed {r.width} {values}", r.packed, case)
@@ -145,7 +145,7 @@ def of_packed_many(r):
     sums = f"({r.length}, {r.packed_sum})"
     yield equation("packed", ALONE, f"summed ({packed})", sums, f"{case}: length and checksum")
     unpacked, sums = f"unpacked {r.width} {len(r.values)} ({packed})", f"({len(r.values)}, {r.unpacked_sum})"
-    yield equation("unpacked", ALONE, f"summedNumbers ({unpacked})", sums, f"{case}: count and checksum")
+    yield equation("unpacked", ALONE, f"summed_numbers ({unpacked})", sums, f"{case}: count and checksum")
 
 
 # ---- columns.bin
@@ -171,8 +171,8 @@ def estimates(c):
 def plan(c, p):
     return fields(
         encoding=stored.ENCODINGS[p.encoding - 1], estimated_bytes=p.estimated_bytes, plain_bytes=p.plain_bytes,
-        reason=REASONS[p.reason], run_density=f"ofBits binary64 {c.stats.run_density}",
-        estimated_ratio=f"ofBits binary64 {p.estimated_ratio}", estimates=estimates(c),
+        reason=REASONS[p.reason], run_density=f"of_bits binary64 {c.stats.run_density}",
+        estimated_ratio=f"of_bits binary64 {p.estimated_ratio}", estimates=estimates(c),
     )
 
 
@@ -185,8 +185,8 @@ def of_column(c):
     yield equation("estimates_of", PLANNING, f"estimates_of {column}", estimates(c), case)
     for p in c.plans:
         for level in (n for n in p.levels if c.chunks or n in GAIN_LEVELS):
-            asked = f"planOf {level} {column}"
-            yield equation("planOf", f"{PLANNING} ofBits", asked, plan(c, p), f"{case} at level {level}")
+            asked = f"plan_of {level} {column}"
+            yield equation("plan_of", f"{PLANNING} of_bits", asked, plan(c, p), f"{case} at level {level}")
     yield from (of_stored_chunks if c.chunks else of_described_chunks)(c, column, case)
 
 
@@ -194,21 +194,21 @@ def of_stored_chunks(c, column, case):
     yield equation("distinct_values", PLANNING, f"distinct_values {column}", keys(c.distinct), case)
     for id, (name, chunk) in enumerate(zip(stored.ENCODINGS, c.chunks), 1):
         asked, length, so = f"{id} {column} {len(c.keys)}", len(chunk), f"{case} in {name}"
-        yield of_bytes("chunkOf", WRITING, f"chunkOf {name} {column}", chunk, so)
+        yield of_bytes("chunk_of", WRITING, f"chunk_of {name} {column}", chunk, so)
         yield equation("write_answer", WRITING, f"write_answer {asked} {length}", f"Accepted {length}", so)
         yield of_bytes("write_output", WRITING, f"write_output {asked} (replicate {length} 0)", chunk, so)
 
 
 def of_described_chunks(c, column, case):
-    asked, sums = f"summedKeys (distinct_values {column})", f"({c.distinct_count}, {c.distinct_sum})"
+    asked, sums = f"summed_keys (distinct_values {column})", f"({c.distinct_count}, {c.distinct_sum})"
     yield equation("distinct_values", PLANNING, asked, sums, f"{case}: count and checksum")
     for name, (length, total) in zip(stored.ENCODINGS, c.chunk_sums):
-        asked, so = f"summed (chunkOf {name} {column})", f"{case} in {name}: length and checksum"
-        yield equation("chunkOf", WRITING, asked, f"({length}, {total})", so)
+        asked, so = f"summed (chunk_of {name} {column})", f"{case} in {name}: length and checksum"
+        yield equation("chunk_of", WRITING, asked, f"({length}, {total})", so)
 
 
 def of_refused_encoding(r):
-    asked = f"numberOf (write_answer {r.id} {keys((1, 2, 3))} 3 100)"
+    asked = f"number_of (write_answer {r.id} {keys((1, 2, 3))} 3 100)"
     yield equation("write_answer", WRITING, asked, r.number, f"[1, 2, 3] in the encoding {r.id}")
 
 
@@ -247,7 +247,7 @@ def of_values(r, naming, s, case):
     asked = f"read_column false {naming} {s} (replicate {r.count} (pos 0))"
     if r.keys is None:
         sums = f"({r.count}, {r.keys_sum})"
-        return equation("read_column", READING, f"summedKeys ({asked})", sums, f"{case}: count and checksum")
+        return equation("read_column", READING, f"summed_keys ({asked})", sums, f"{case}: count and checksum")
     return equation("read_column", READING, asked, keys(r.keys), case)
 
 

@@ -10,26 +10,26 @@ FILE_SIZE = 100
 # rt checks crates side by side; with several to a core, no core waits long for the last one.
 CRATES = 8
 
-SOURCE = "// No code: proofs/ has the equations.\n"
+SOURCE = "// No code: proofs/ has the equations.\n#![tactic(auto)]\n"
 
 # What the equations ask, where it is not a definition as it stands.
 ASKED = """\
 use mathlib.Core.Bool.{false}
-use mathlib.Core.List.{List, [], _∷_, _++_, map}
-use Prim.Native.Nat.{ℕ, _*_, _%_, _^_}
-use lib.Bits.{bitXor}
+use mathlib.Core.List.{List, [], ◌∷◌, ◌++◌, map}
+use Prim.Native.Nat.{ℕ, ◌*◌, ◌%◌, ◌^◌}
+use lib.Bits.{bit_xor}
 use lib.IntN.{ℤ}
 use lib.ListN.{length}
-use Rattle·format.specs.Digits.{digits}
-use Rattle·format.specs.Outcome.{Outcome, refused, ok}
-use Rattle·format.specs.Keys.{residue}
-use Rattle·format.specs.Header.{unnamed, named}
-use Rattle·format.specs.Read.{read_answer}
-use Rattle·format.specs.declared.Answer.{Answer}
-use Rattle·format.specs.declared.UvarintAnswer.{UvarintAnswer}
-use Rattle·format.specs.declared.UvarintAnswer.the-variants.{Read, Malformed}
-use Rattle·format.specs.declared.VarintAnswer.{VarintAnswer}
-use Rattle·format.specs.declared.VarintAnswer.the-variants.{Read as SignedRead, Malformed as SignedMalformed}
+use Rattle.format.specs.Digits.{digits}
+use Rattle.format.specs.Outcome.{Outcome, refused, ok}
+use Rattle.format.specs.Keys.{residue}
+use Rattle.format.specs.Header.{unnamed, named}
+use Rattle.format.specs.Read.{read_answer}
+use Rattle.format.specs.declared.Answer.{Answer}
+use Rattle.format.specs.declared.UvarintAnswer.{UvarintAnswer}
+use Rattle.format.specs.declared.UvarintAnswer.TheVariants.{Read, Malformed}
+use Rattle.format.specs.declared.VarintAnswer.{VarintAnswer}
+use Rattle.format.specs.declared.VarintAnswer.TheVariants.{Read as SignedRead, Malformed as SignedMalformed}
 
 -- the eight readings of a chunk
 unfoldable pub readings : List ℕ → ℕ → List Answer
@@ -37,18 +37,18 @@ readings s room =
     map (λ naming. read_answer false naming s room) (unnamed ∷ named 1 ∷ named 2 ∷ named 3 ∷ named 4 ∷ named 5 ∷ named 6 ∷ named 7 ∷ [])
 
 -- a varint's answer without `unpadded`, which the Rust does not tell
-abbrev pub unsignedRead : UvarintAnswer → Outcome (ℕ × ℕ)
-unsignedRead (Read value next unpadded) = ok (value, next)
-unsignedRead (Malformed number offset) = refused number offset
+abbrev pub unsigned_read : UvarintAnswer → Outcome (ℕ × ℕ)
+unsigned_read (Read value next unpadded) = ok (value, next)
+unsigned_read (Malformed number offset) = refused number offset
 
-abbrev pub signedRead : VarintAnswer → Outcome (ℤ × ℕ)
-signedRead (SignedRead value next unpadded) = ok (value, next)
-signedRead (SignedMalformed number offset) = refused number offset
+abbrev pub signed_read : VarintAnswer → Outcome (ℤ × ℕ)
+signed_read (SignedRead value next unpadded) = ok (value, next)
+signed_read (SignedMalformed number offset) = refused number offset
 
 -- the stored checksum: FNV-1a with 64 bits
 abbrev pub fnv : ℕ → List ℕ → ℕ
 fnv sum [] = sum
-fnv sum (b ∷ bs) = fnv (bitXor b sum * 1099511628211 % 2 ^ 64) bs
+fnv sum (b ∷ bs) = fnv (bit_xor b sum * 1099511628211 % 2 ^ 64) bs
 
 abbrev pub words : List ℕ → List ℕ
 words [] = []
@@ -58,53 +58,53 @@ words (n ∷ ns) = digits 256 8 n ++ words ns
 abbrev pub summed : List ℕ → ℕ × ℕ
 summed bytes = (length bytes, fnv 14695981039346656037 bytes)
 
-abbrev pub summedNumbers : List ℕ → ℕ × ℕ
-summedNumbers ns = (length ns, fnv 14695981039346656037 (words ns))
+abbrev pub summed_numbers : List ℕ → ℕ × ℕ
+summed_numbers ns = (length ns, fnv 14695981039346656037 (words ns))
 
-abbrev pub summedKeys : List ℤ → ℕ × ℕ
-summedKeys column = summedNumbers (map residue column)
+abbrev pub summed_keys : List ℤ → ℕ × ℕ
+summed_keys column = summed_numbers (map residue column)
 """
 
 HEADER = """\
-use mathlib.Core.Path.{_≡_, refl}
+use mathlib.Core.Path.{◌≡◌, refl}
 use mathlib.Core.Bool.{true, false}
-use mathlib.Core.List.{[], _∷_}
+use mathlib.Core.List.{[], ◌∷◌}
 use lib.IntN.{pos, negsuc}
 use lib.ListN.{replicate}
-use lib.Ieee.{ofBits, binary64}
-use Rattle·format.specs.Outcome.{refused, ok}
-use Rattle·format.specs.Keys.{zigzag, unzigzag}
-use Rattle·format.specs.Width.{width}
-use Rattle·format.specs.Varint.{uvarint_len, uvarint_bytes, varint_len, varint_bytes}
-use Rattle·format.specs.Packing.{packed, unpacked}
-use Rattle·format.specs.Answers.{numberOf}
-use Rattle·format.specs.Header.{unnamed, named}
-use Rattle·format.specs.Chunk.{chunkOf}
-use Rattle·format.specs.Read.{read_column}
-use Rattle·format.specs.Write.{write_answer, write_output}
-use Rattle·format.specs.Standalone.{packed_len_answer, pack_answer, unpack_answer, uvarint_answer, varint_answer}
-use Rattle·format.specs.Statistics.{stats_of, distinct_values}
-use Rattle·format.specs.Estimates.{estimates_of}
-use Rattle·format.specs.Plan.{planOf}
-use Rattle·format.specs.declared.Answer.the-variants.{Accepted, Refused}
-use Rattle·format.specs.declared.Encoding.the-variants.{Plain, Varint, BitPacked, FrameOfReference, RunLength, Dictionary, DeltaBinaryPacked}
-use Rattle·format.specs.declared.Sortedness.the-variants.{Constant, Ascending, Descending, Unsorted}
-use Rattle·format.specs.declared.Cardinality.the-variants.{Exact, AtLeast}
-use Rattle·format.specs.declared.PlanReason.the-variants.{Empty, CompressionDisabled, SmallestEstimate, GainBelowThreshold}
-use Rattle·format.proofs.samples.Computing.{reading-computes, writing-computes, planning-computes, standalone-computes}
-use Rattle·asked.specs.Asked.{readings, unsignedRead, signedRead, summed, summedNumbers, summedKeys}
+use lib.Ieee.{of_bits, binary64}
+use Rattle.format.specs.Outcome.{refused, ok}
+use Rattle.format.specs.Keys.{zigzag, unzigzag}
+use Rattle.format.specs.Width.{width}
+use Rattle.format.specs.Varint.{uvarint_len, uvarint_bytes, varint_len, varint_bytes}
+use Rattle.format.specs.Packing.{packed, unpacked}
+use Rattle.format.specs.Answers.{number_of}
+use Rattle.format.specs.Header.{unnamed, named}
+use Rattle.format.specs.Chunk.{chunk_of}
+use Rattle.format.specs.Read.{read_column}
+use Rattle.format.specs.Write.{write_answer, write_output}
+use Rattle.format.specs.Standalone.{packed_len_answer, pack_answer, unpack_answer, uvarint_answer, varint_answer}
+use Rattle.format.specs.Statistics.{stats_of, distinct_values}
+use Rattle.format.specs.Estimates.{estimates_of}
+use Rattle.format.specs.Plan.{plan_of}
+use Rattle.format.specs.declared.Answer.TheVariants.{Accepted, Refused}
+use Rattle.format.specs.declared.Encoding.TheVariants.{Plain, Varint, BitPacked, FrameOfReference, RunLength, Dictionary, DeltaBinaryPacked}
+use Rattle.format.specs.declared.Sortedness.TheVariants.{Constant, Ascending, Descending, Unsorted}
+use Rattle.format.specs.declared.Cardinality.TheVariants.{Exact, AtLeast}
+use Rattle.format.specs.declared.PlanReason.TheVariants.{Empty, CompressionDisabled, SmallestEstimate, GainBelowThreshold}
+use Rattle.format.proofs.Samples.Computing.{reading-computes, writing-computes, planning-computes, standalone-computes}
+use Rattle.asked.specs.Asked.{readings, unsigned_read, signed_read, summed, summed_numbers, summed_keys}
 
 """
 
 # How a message of the checker begins, with the equation that it is about; and how rt names a crate that failed.
-MESSAGE = re.compile(r"^/\S+\.antt:\d+:\d+: error: (?:`eq-(\d+)`)?")
-FAILED = re.compile(r"^rt: equations_(\d+) NOT PROVED", re.MULTILINE)
+MESSAGE = re.compile(r"^\S+\.antt:\d+:\d+: error: (?:`eq-(\d+)`)?")
+FAILED = re.compile(r"^equations_(\d+): failed", re.MULTILINE)
 
 
 def build(root, scratch, equations):
     """Writes the scratch repository anew, so that nothing of an earlier run is trusted."""
     shutil.rmtree(scratch, ignore_errors=True)
-    shutil.copytree(root / "crates" / "format", scratch / "crates" / "format")
+    shutil.copytree(root / "crates" / "format", scratch / "crates" / "format", ignore=shutil.ignore_patterns("out"))
     write_crate(scratch, "asked", "specs", {"Asked": ASKED})
     lines = ["format:", "asked: format"]
     numbered = list(enumerate(equations))
@@ -143,7 +143,7 @@ def check(scratch):
     """Runs the checker. Gives whether it proved everything; its message on each equation, by number; and, where it failed
     in another way too, all that it printed."""
     run = subprocess.run(
-        ["nice", "rt", "check"], cwd=scratch, env={**os.environ, "RT_JOBS": str(os.cpu_count())},
+        ["nice", "rt", "all", "check", "--jobs", str(os.cpu_count())], cwd=scratch,
         stdout=subprocess.PIPE, stderr=subprocess.STDOUT, text=True, errors="replace",
     )
     messages, current = {}, None
