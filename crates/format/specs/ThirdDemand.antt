@@ -1,5 +1,5 @@
 -- The third demand (the mission, "The round trip, as one claim"; 01: "a single claim about planning, writing and reading in a row, not one for each").
--- This file is the statement; proofs/third/ThirdDemand.antt proves it.
+-- This file is the statement; proofs/Third/ThirdDemand.antt proves it.
 use Rattle.std.specs.Prelude.{◌≡◌, ◌≢◌, Bool, true, false, List, ℕ, ◌≤◌, ℤ, length, take}
 use Rattle.format.specs.Keys.{Keys}
 use Rattle.format.specs.Encodings.{id_of, max_chunk_elements}

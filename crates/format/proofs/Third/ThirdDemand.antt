@@ -1,6 +1,6 @@
--- THE THIRD DEMAND, proved. Planning, writing and reading are each accepted by the laws of plan/Checks and codecs/Chunk. The lengths follow from two facts:
--- an available estimate is its chunk's length, for delta at least that (lengths/Exact, lengths/Chunks), and the plan takes the least available estimate, or
--- Plain where that one's gain is too small (plan/Plan).
+-- THE THIRD DEMAND, proved. Planning, writing and reading are each accepted by the laws of Plan/Checks and Codecs/Chunk. The lengths follow from two facts:
+-- an available estimate is its chunk's length, for delta at least that (Lengths/Exact, Lengths/Chunks), and the plan takes the least available estimate, or
+-- Plain where that one's gain is too small (Plan/Plan).
 use mathlib.Core.Path.{◌≡◌, sym, ◌∙◌}
 use mathlib.Core.Logic.{◌≢◌}
 use Prim.Native.Nat.{ℕ, ◌≤◌}
