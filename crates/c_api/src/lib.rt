@@ -2,8 +2,8 @@
 // what a proved call answers and leaves; nothing is decided here.
 //
 // A caller in C passes a slice as two arguments, a pointer and a count of elements, and `&mut usize` as a pointer. An enum does not
-// cross `extern "C"`: of an answer the number is returned, and the count or the offset is stored through the last pointer. Nor is a
-// pointer to a struct a form that the borrow checker covers, so a record is a row of 64-bit numbers here (`rows`) and a struct in the header.
+// cross `extern "C"`: of an answer the number is returned, and the count or the offset is stored through the last pointer. A record is a
+// row of 64-bit numbers here (`rows`) and a struct in the header.
 #![tactic(auto)]
 
 ghost use Rattle.std.specs.Prelude.{◌≡◌};

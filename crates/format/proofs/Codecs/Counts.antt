@@ -11,7 +11,7 @@ use borrow.Author.Tests.{leb-true, eqb-true}
 use lib.IntN.{ℤ}
 use lib.Dec.{leb, eqb}
 use lib.ListN.{length, drop, length-append, length-map, length-replicate}
-use Rattle.format.specs.Outcome.{ok, check, ◌>>=◌}
+use Rattle.format.specs.Outcome.{ok, check}
 use Rattle.format.specs.Digits.{of_digits}
 use Rattle.format.specs.Keys.{wrapping_add}
 use Rattle.format.specs.Varint.{UvarintRead, Extent, read_uvarint, uvarint_at, uvarint_values}

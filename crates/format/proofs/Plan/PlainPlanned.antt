@@ -19,7 +19,7 @@ use Rattle.format.specs.declared.Encoding.TheVariants.{Plain}
 use Rattle.format.specs.declared.PlanReason.{PlanReason}
 use Rattle.format.specs.declared.PlanReason.TheVariants.{Empty, CompressionDisabled, SmallestEstimate, GainBelowThreshold}
 use Rattle.format.proofs.Lengths.Estimates.{plain-available}
-use Rattle.format.proofs.Lengths.Limits.{plain-some, plain-limit, plain-most}
+use Rattle.format.proofs.Lengths.Limits.{plain-some, plain-limit}
 use Rattle.format.proofs.Plan.Gain.{LevelFraction, levels-1-3, levels-4-6, levels-7-9, level-positive, plain-no-gain, gain-at-level}
 use Rattle.format.proofs.Plan.Plan.{ReasonCase, no-values, level-0, best-is-plain, gain-met, gain-not-met, best_of, shortest_length, plain_length, plan-encoding, shortest_length-least, plan-case}
 

@@ -1,5 +1,5 @@
 -- `number::gap` meets its contract: the bits of a delta are the gap.
-use Rattle.std.proofs.Common.{ap, ◌∙◌, ap₂, to_z-of_z, rules}
+use Rattle.std.proofs.Common.{ap, ◌∙◌, ap₂, to_z-of_z}
 use Rattle.format.specs.Keys.{residue, delta}
 use Rattle.number.proofs.Signed.{held, delta-bits}
 use Rattle.number.proofs.gap.Goals as goal

@@ -1,5 +1,5 @@
 -- `number::of_bits` meets its contract: a cast of the bits, or of their complement, complemented again.
-use Rattle.std.proofs.Common.{◌≡◌, ◌-◌, sym, arith, rules}
+use Rattle.std.proofs.Common.{◌≡◌, ◌-◌, sym, arith}
 use Rattle.number.proofs.Signed.{as_signed-to_z}
 use Rattle.number.proofs.of_bits.Goals as goal
 

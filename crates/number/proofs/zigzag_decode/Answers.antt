@@ -1,5 +1,5 @@
 -- `number::zigzag_decode` meets its contract: half of an even ZigZag, and -half - 1 of an odd one, which loses nothing since half is below 2^63.
-use Rattle.std.proofs.Common.{◌≡◌, ◌/◌, ◌%◌, ◌^◌, ◌<◌, arith, w64, rules}
+use Rattle.std.proofs.Common.{◌≡◌, ◌/◌, ◌%◌, ◌^◌, ◌<◌, arith, w64}
 use lib.Bits.{and_mask}
 use mir.Facts.{to_z_pos}
 use Rattle.format.specs.Keys.{unzigzag}
