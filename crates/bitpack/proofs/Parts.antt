@@ -1,5 +1,5 @@
 -- Parts of slices that are lent to a call, `&s[at..]` and `&mut s[at..]`, as the borrow checker states them: the first is what is left from `at` on, and after the
--- second the whole is what stood before `at` and then the part as it came back. A place past the end is the end, `min at (length l)`, and the part is empty.
+-- second the whole is what stood before `at` and then the part as it came back.
 use mathlib.Core.Path.{◌≡◌, ap, ◌∙◌}
 use Prim.Native.Nat.{ℕ, zero, suc, ◌-◌, ◌≤◌, min}
 use native.Mathlib.Nat.{le_of_eq}
@@ -17,22 +17,3 @@ module _ {A : Type 0} where
   pub part-back : (at : ℕ) (l back : List A) → at ≤ length l → put_mid at (length l - at) l back ≡ take at l ++ back
   part-back at l back h =
       ap (λ (r : List A). take at l ++ (back ++ r)) (Post-is at (length l) l h ∙ drop-length l) ∙ ap (λ (r : List A). take at l ++ r) (append-nil back)
-
-  -- ---- from a place on, past the end or not
-
-  drop_min : (at : ℕ) (l : List A) → drop (min at (length l)) l ≡ drop at l
-  drop_min zero l = simp unary_clauses
-  drop_min (suc at) [] = simp unary_clauses
-  drop_min (suc at) (x ∷ l) = simp unary_clauses (drop_min at l)
-
-  take_min : (at : ℕ) (l : List A) → take (min at (length l)) l ≡ take at l
-  take_min zero l = simp unary_clauses
-  take_min (suc at) [] = simp unary_clauses
-  take_min (suc at) (x ∷ l) = simp unary_clauses (ap (λ (r : List A). x ∷ r) (take_min at l))
-
-  module _ (at : ℕ) (l : List A) {start : ℕ} (e : start ≡ min at (length l)) where
-    pub from-rest : take (length l - start) (drop start l) ≡ drop at l
-    from-rest = part-rest start l ∙ ap (λ (i : ℕ). drop i l) e ∙ drop_min at l
-
-    pub from_back : (back : List A) → put_mid start (length l - start) l back ≡ take at l ++ back
-    from_back back = part-back start l back (omega (arith, e)) ∙ ap (λ (i : ℕ). take i l ++ back) e ∙ ap (λ (r : List A). r ++ back) (take_min at l)

@@ -110,19 +110,3 @@ module _ (s : List ℕ) where
     pub count-found : value ≤ max_chunk_elements → Found value next (first_padded Nowhere 2 unpadded) ≡ header_answer_of (count_outcome 0 s)
     unfolding count_outcome
     count-found h = rw (answer-read s 2 e, le-leb value max_chunk_elements h)
-
--- ---- tests turned round
-
-pub not-true : {b : Bool} → not b ≡ true → b ≡ false
-not-true {b} = go b
-  where
-    go : (b : Bool) → not b ≡ true → b ≡ false
-    go true e = cc
-    go false e = refl
-
-pub not-false : {b : Bool} → not b ≡ false → b ≡ true
-not-false {b} = go b
-  where
-    go : (b : Bool) → not b ≡ false → b ≡ true
-    go true e = refl
-    go false e = cc
