@@ -1,11 +1,9 @@
 -- Parts of slices that are lent to a call, `&s[at..]` and `&mut s[at..]`, as the borrow checker states them: the first is what is left from `at` on, and after the
 -- second the whole is what stood before `at` and then the part as it came back.
 use mathlib.Core.Path.{◌≡◌, ap, ◌∙◌}
-use Prim.Native.Nat.{ℕ, zero, suc, ◌-◌, ◌≤◌, min}
+use Prim.Native.Nat.{ℕ, ◌-◌, ◌≤◌}
 use native.Mathlib.Nat.{le_of_eq}
-use native.Mathlib.Numerals.{unary_clauses}
-use native.Mathlib.Omega.{arith}
-use mathlib.Core.List.{List, [], ◌∷◌, ◌++◌, append-nil}
+use mathlib.Core.List.{List, ◌++◌, append-nil}
 use lib.ListN.{length, take, drop, length-drop}
 use lib.Seq.{take_all, drop-length}
 use borrow.Rule.Slice.PartMut.{put_mid, Post-is}
