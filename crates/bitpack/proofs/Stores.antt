@@ -6,7 +6,7 @@ use native.Mathlib.Numerals.{add-one}
 use native.Mathlib.Omega.{arith}
 use mathlib.Core.List.{List, [], ◌∷◌, ◌++◌}
 use lib.ListN.{length, get_or, set, drop, length-append, length-drop}
-use lib.Seq.{drop-cons, set_at, append_snoc, sets, sets-eq, take_at, drop_at, drop-append-add, drop-drop}
+use lib.Seq.{drop-cons, set_at, append_snoc, sets, sets-eq, take_at, drop-append-add, drop-drop}
 use Rattle.format.specs.Digits.{digits}
 use Rattle.format.proofs.Numbers.Digits.{length_digits}
 use Rattle.format.proofs.Numbers.Places.{digits-add}
@@ -29,10 +29,6 @@ module _ (f l : List ℕ) (k : ℕ) (e : length f ≡ k) where
       (ap₂ (λ (a b : ℕ). drop (a + b) whole) (sym e) eg ∙ drop-append-add f (drop k l) n ∙ drop-drop n k l)
 
   module _ {o : List ℕ} (eo : o ≡ f ++ drop k l) where
-    -- the same front over itself
-    pub front-again : o ≡ f ++ drop k o
-    front-again = eo ∙ ap (λ (r : List ℕ). f ++ r) (sym (drop_at f (drop k l) k e) ∙ ap (drop k) (sym eo))
-
     -- past the front nothing changed
     pub front-past : (n : ℕ) → k ≤ n → drop n o ≡ drop n l
     front-past n h =

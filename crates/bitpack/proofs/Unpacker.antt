@@ -2,7 +2,6 @@
 -- turn that stores it keeps this.
 use mathlib.Core.Path.{◌≡◌, refl, sym, ap, ap₂, ◌∙◌}
 use Prim.Native.Nat.{ℕ, ◌+◌, ◌*◌, ◌/◌, ◌%◌, ◌^◌, ◌≤◌, ◌<◌}
-use native.Mathlib.Nat.{le_of_lt, mul-le-mul, mul-le-mul_right}
 use native.Mathlib.Omega.{arith}
 use mathlib.Core.List.{List, [], ◌∷◌, ◌++◌}
 use lib.ListN.{length, set, drop, length-set}
@@ -11,7 +10,7 @@ use Rattle.format.specs.Packing.{unpacked}
 use Rattle.format.proofs.Codecs.Counts.{length-unpacked}
 use Rattle.bitpack.specs.Loads.{Within}
 use Rattle.format.proofs.Numbers.Places.{pow-pow, digits-add}
-use Rattle.bitpack.proofs.Stores.{fill_step, front-again, front-past}
+use Rattle.bitpack.proofs.Stores.{fill_step, front-past}
 
 pub record Filled (w : ℕ) (s out₀ out : List ℕ) (i : ℕ) : Type 0 where
   pub same : length out ≡ length out₀
@@ -38,11 +37,7 @@ module _ {w : ℕ} {s : List ℕ} where
               ∙ ap (λ (l : List ℕ). l ++ drop (i + 1) out₀) (sym (unpacked-suc w i s));
         }
 
-    -- a second loop begins where the first ended,
-    pub again : Filled w s out out i
-    again = record { same = refl; front = front-again (unpacked w i s) out₀ i (length-unpacked w i s) f.front }
-
-    -- and both together fill the buffer
+    -- a second loop, over what the first has filled: both together fill the buffer
     pub over : {last : List ℕ} {n : ℕ} → i ≤ n → Filled w s out last n → Filled w s out₀ last n
     over {last} {n} h g =
         record {
@@ -56,14 +51,6 @@ module _ {len w k i : ℕ} (h : Within len w k k) (lt : i < k) where
   inside : (w ≤ 57) × (k * w + 64 ≤ len * 8)
   inside = h.inside (omega arith)
 
-  -- it is inside,
-  pub word-inside : i * w / 8 + 8 ≤ len
-  word-inside = omega (arith, inside, mul-le-mul_right w (le_of_lt lt))
-
-  -- it has all bits of the value,
+  -- it has all bits of the value
   pub word_holds : i * w % 8 + w ≤ 64
   word_holds = omega (arith, inside)
-
-  -- and its place fits a number
-  pub bit-fits : k ≤ 16777216 → i * w < 2 ^ 62
-  bit-fits few = let most : i ≤ 16777216 = omega arith in omega (arith, mul-le-mul most inside.0)

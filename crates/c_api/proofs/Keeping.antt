@@ -6,7 +6,7 @@ use Prim.Native.Nat.{ℕ}
 use lib.IntN.{ℤ}
 use lib.ListN.{length}
 use lib.Dec.{eqb}
-use borrow.Author.Tests.{eqb-true, eqb-false, ne_eqb}
+use borrow.Author.Tests.{eqb-true, eqb-false}
 use Rattle.format.specs.Answers.{number_of}
 use Rattle.format.specs.Statistics.{stats_answer, distinct_values_part}
 use Rattle.format.specs.declared.Answer.{Answer}
@@ -14,10 +14,6 @@ use Rattle.format.specs.declared.Answer.TheVariants.{Accepted, Refused}
 use Rattle.distinct.specs.Collect.{collect_answer}
 use Rattle.stats.proofs.Answering.{Tells, told, analysed-exact, analysed-many, analysed-none, part_none, part-exact}
 use Rattle.c_api.specs.Told.{kept_number, kept_count}
-
--- a number that is not 23 is kept
-pub other-number : (number : ℕ) → (number ≡ 23 → ⊥) → cond (eqb number 23) 0 number ≡ number
-other-number number other = rw (ne_eqb number 23 other)
 
 module _ (column : List ℤ) (room : ℕ) where
   number-of : (answer : Answer) → Tells column room answer → kept_number answer ≡ number_of (stats_answer column room).answer

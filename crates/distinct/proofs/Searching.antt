@@ -144,17 +144,10 @@ module _ (values : List ℤ) (key : ℤ) where
         go (suc (suc k)) e h g = absurd (omega arith)
 
   -- one value
-  module _ {low : ℕ} (s : Narrowing low 0) where
-    pub narrowing-last : low < length values
-    narrowing-last = omega (arith, s.room)
-
-    module _ {step : ℕ} {value : ℤ} (v : value ≡ get_or values low (pos 0)) (t : step ≡ up_over value key 1) where
-      pub narrowing-most : low + step ≤ length values
-      narrowing-most = omega (arith, narrowing-last, t, up-most value key 1)
-
-      pub narrowing-done : low + step ≡ searched values key
-      unfolding narrowed
-      narrowing-done = ap (λ (n : ℕ). low + n) (t ∙ ap (λ (x : ℤ). up_over x key 1) v) ∙ s.finds
+  module _ {low : ℕ} (s : Narrowing low 0) {step : ℕ} {value : ℤ} (v : value ≡ get_or values low (pos 0)) (t : step ≡ up_over value key 1) where
+    pub narrowing-done : low + step ≡ searched values key
+    unfolding narrowed
+    narrowing-done = ap (λ (n : ℕ). low + n) (t ∙ ap (λ (x : ℤ). up_over x key 1) v) ∙ s.finds
 
   -- ---- among rising values
 
