@@ -82,7 +82,9 @@ fn proved_library() -> Result<PathBuf, String> {
 /// Has cargo ask again where the sources of the library change. What `rt` builds lies among them, in crates/*/out, so
 /// the folder crates is not named as a whole.
 fn watch_sources(top: &Path) -> Result<(), String> {
-    println!("cargo:rerun-if-changed={}", top.join("crates.txt").display());
+    for file in ["crates.txt", BUILDER] {
+        println!("cargo:rerun-if-changed={}", top.join(file).display());
+    }
     let crates = top.join("crates");
     let cannot_read = |error: io::Error| format!("{} cannot be read: {error}.", crates.display());
     for entry in fs::read_dir(&crates).map_err(cannot_read)? {

@@ -96,6 +96,10 @@ def main():
     place = Path(os.environ.get("WARPBOULDER_DEFINITIONS_BUILD") or f"/tmp/warpboulder-definitions-{os.getuid()}").resolve()
     if root in [place, *place.parents]:
         fail(f"the folder {place} lies inside the tree; set WARPBOULDER_DEFINITIONS_BUILD to another.")
+    # A folder of its own in there, since what it holds is removed first.
+    place = place / "warpboulder-definitions"
+    if place in root.parents:
+        fail(f"the tree lies inside {place}, which is made anew; set WARPBOULDER_DEFINITIONS_BUILD to another.")
     if not shutil.which("rt"):
         fail("rt, Rattle's checker, is not installed or not in the path.")
     records = read_records(root / "crates" / "replay" / "data", options.quick)

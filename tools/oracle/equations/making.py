@@ -64,9 +64,8 @@ def answer(given, count):
 
 
 def fields(**terms):
-    """A record. A field name with `_` stands in marks, as antt writes it."""
-    named = ((f"«{name}»" if "_" in name else name, term) for name, term in terms.items())
-    return "record { " + "; ".join(f"{name} = {term}" for name, term in named) + " }"
+    """A record."""
+    return "record { " + "; ".join(f"{name} = {term}" for name, term in terms.items()) + " }"
 
 
 # ---- words for a reader
