@@ -1,6 +1,6 @@
 /* Warpboulder: a proved codec for columns of signed 64-bit keys.
  *
- * Link with target/staticlib/libc_api.a, which `tools/library c_api` proves and writes (x86-64 Linux). The library allocates
+ * Link with target/staticlib/libc_api.a, which `tools/library c_api` proves and writes (x86-64-v2 Linux). The library allocates
  * nothing, keeps no state and calls nothing but memset, so any number of threads may use it at once. A call may take up to 400 KiB of
  * stack: where a column of more than 384 keys is analysed or written as Dictionary, or a Dictionary chunk is read.
  *

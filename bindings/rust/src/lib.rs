@@ -84,7 +84,7 @@
 //! ```
 //!
 //! The crate stands in `bindings/rust` of the Warpboulder repository. Building it proves the library first, with the
-//! command `rt` of the Rattle kit (x86-64 Linux); that takes some minutes once, and then only where the library's
+//! command `rt` of the Rattle kit (x86-64-v2 Linux); that takes some minutes once, and then only where the library's
 //! sources change. Where the environment variable `WARPBOULDER_LIBRARY` names a folder that has `libc_api.a`, that one
 //! is linked and nothing is proved.
 
