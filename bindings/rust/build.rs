@@ -46,7 +46,7 @@ fn check_target() -> Result<(), String> {
     if arch == "x86_64" && os == "linux" {
         return Ok(());
     }
-    Err(format!("the proved library is for x86-64 Linux, and the target is {arch} {os}."))
+    Err(format!("the proved library is for x86-64-v2 Linux, and the target is {arch} {os}."))
 }
 
 fn given_library(folder: &Path) -> Result<PathBuf, String> {

@@ -98,8 +98,12 @@ def main():
         fail(f"the folder {place} lies inside the tree; set WARPBOULDER_DEFINITIONS_BUILD to another.")
     # A folder of its own in there, since what it holds is removed first.
     place = place / "warpboulder-definitions"
-    if place in root.parents:
-        fail(f"the tree lies inside {place}, which is made anew; set WARPBOULDER_DEFINITIONS_BUILD to another.")
+    if place in [root, *root.parents]:
+        fail(f"the tree lies in {place}, which is made anew; set WARPBOULDER_DEFINITIONS_BUILD to another.")
+    try:
+        place.mkdir(parents=True, exist_ok=True)
+    except OSError as error:
+        fail(f"the folder {place} cannot be made ({error.strerror}); set WARPBOULDER_DEFINITIONS_BUILD to another.")
     if not shutil.which("rt"):
         fail("rt, Rattle's checker, is not installed or not in the path.")
     records = read_records(root / "crates" / "replay" / "data", options.quick)
