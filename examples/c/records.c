@@ -1,5 +1,5 @@
 /* Reads every field of the records by its name, of a column whose statistics, estimates and plan can be worked out by hand. The
- * library stores a record as a row of numbers, so this is what shows that the header's structs name the right ones. */
+ * library's own structs are in crates/rows/src, and this is what shows that the header's have the same fields in the same places. */
 #include <inttypes.h>
 #include <stdio.h>
 

@@ -1,6 +1,5 @@
 -- A turn of the loops over varints in a row: an answer with a value, or with bytes written, is one step of the row; a refusal is its end.
 use mathlib.Core.Path.{◌≡◌, refl, sym, ap, ◌∙◌}
-use mathlib.Core.Bool.{Bool}
 use mathlib.Core.List.{List, [], ◌∷◌, ◌++◌}
 use Prim.Native.Nat.{ℕ, zero, suc, ◌+◌, ◌-◌, ◌≤◌, ◌<◌}
 use native.Mathlib.Numerals.{add-one}
@@ -11,11 +10,9 @@ use lib.Seq.{drop-cons, set_split, drop-drop}
 use borrow.Author.Tests.{leb-true}
 use Rattle.format.specs.Outcome.{Outcome, refused, ok, check, ◌>>=◌, value_or}
 use Rattle.format.specs.Answers.{stored_answer, stored}
-use Rattle.format.specs.Varint.{UvarintRead, read_uvarint, uvarint_len}
-use Rattle.format.specs.Standalone.{uvarint_answer_of, uvarint_answer, uvarint_write_outcome, uvarint_write_answer, uvarint_write_output}
-use Rattle.format.specs.declared.Answer.{Answer}
-use Rattle.format.specs.declared.Answer.TheVariants.{Accepted, Refused}
-use Rattle.format.specs.declared.UvarintAnswer.TheVariants.{Read, Malformed}
+use Rattle.format.specs.Varint.{read_uvarint, uvarint_len}
+use Rattle.format.specs.Standalone.{uvarint_write_outcome, uvarint_write_answer, uvarint_write_output}
+use Rattle.format.specs.declared.Uvarint.{Uvarint}
 use Rattle.format.proofs.Codecs.Outcome.{both-passed, check-passed}
 use Rattle.format.proofs.Numbers.Uvarints.{length-uvarint_bytes}
 use Rattle.bench.specs.Rows.{row_values, row_bytes}
@@ -27,22 +24,12 @@ zero-not-one z = absurd (omega arith)
 
 -- ---- reading
 
-read_step : (o : Outcome UvarintRead) (f : ℕ → List ℕ) {v next : ℕ} {u : Bool} → uvarint_answer_of o ≡ Read v next u
-    → value_or [] (o >>= λ r. ok (r.value ∷ f r.next)) ≡ v ∷ f next
-read_step (ok r) f e = cc
-read_step (refused number offset) f e = zero-not-one (cc)
-
-read-stop : (o : Outcome UvarintRead) (f : UvarintRead → List ℕ) {number offset : ℕ} → uvarint_answer_of o ≡ Malformed number offset
-    → value_or [] (o >>= λ r. ok (f r)) ≡ []
-read-stop (refused number offset) f e = refl
-read-stop (ok r) f e = zero-not-one (cc)
-
 module _ (s : List ℕ) (at : ℕ) where
   -- the row ends at a refusal,
-  pub row-stop : (room : ℕ) {number offset : ℕ} → uvarint_answer s at ≡ Malformed number offset → row_values s at room ≡ []
-  unfolding row_values uvarint_answer
+  pub row-stop : (room : ℕ) {number offset : ℕ} → read_uvarint s at ≡ refused number offset → row_values s at room ≡ []
+  unfolding row_values
   row-stop zero e = refl
-  row-stop (suc room) e = read-stop (read_uvarint s at) (λ r. r.value ∷ row_values s r.next room) e
+  row-stop (suc room) e = rw e
 
   -- and where there is no room
   pub row-full : (room : ℕ) → room ≤ 0 → row_values s at room ≡ []
@@ -51,22 +38,22 @@ module _ (s : List ℕ) (at : ℕ) where
   row-full (suc room) h = absurd (omega arith)
 
   -- one value more is stored
-  pub row_read : {row old out : List ℕ} {i v next : ℕ} {u : Bool} → Filled row old out i (row_values s at (length old - i)) → i < length old
-      → uvarint_answer s at ≡ Read v next u → Filled row old (set out i v) (i + 1) (row_values s next (length old - (i + 1)))
-  unfolding row_values uvarint_answer
-  row_read {row} {old} {out} {i} {v} {next} f h e =
+  pub row_read : {row old out : List ℕ} {i : ℕ} {r : Uvarint} → Filled row old out i (row_values s at (length old - i)) → i < length old
+      → read_uvarint s at ≡ ok r → Filled row old (set out i r.value) (i + 1) (row_values s r.next (length old - (i + 1)))
+  unfolding row_values
+  row_read {row} {old} {out} {i} {r} f h e =
       let left = length old - (i + 1) in
-      let r : length old - i ≡ suc left = omega arith in
-      more (v ∷ []) (row_values s next left) f (ap (row_values s at) r ∙ read_step (read_uvarint s at) (λ n. row_values s n left) e) refl (omega arith)
-      (set_split out i v (omega arith) ∙ rw (drop-drop 1 i out, add-one i))
+      let size : length old - i ≡ suc left = omega arith in
+      more (r.value ∷ []) (row_values s r.next left) f (ap (row_values s at) size ∙ rw e) refl (omega arith)
+      (set_split out i r.value (omega arith) ∙ rw (drop-drop 1 i out, add-one i))
 
 -- ---- writing
 
-accepted {ℓ} : {C : Type ℓ} (o : Outcome (List ℕ)) {n : ℕ} → stored_answer o ≡ Accepted n → ((bytes : List ℕ) → o ≡ ok bytes → length bytes ≡ n → C) → C
+accepted {ℓ} : {C : Type ℓ} (o : Outcome (List ℕ)) {n : ℕ} → stored_answer o ≡ ok n → ((bytes : List ℕ) → o ≡ ok bytes → length bytes ≡ n → C) → C
 accepted (ok bytes) e goal = goal bytes refl (cc)
 accepted (refused number offset) e goal = zero-not-one (cc)
 
-not-accepted : (o : Outcome (List ℕ)) {number offset : ℕ} → stored_answer o ≡ Refused number offset → o ≡ refused number offset
+not-accepted : (o : Outcome (List ℕ)) {number offset : ℕ} → stored_answer o ≡ refused number offset → o ≡ refused number offset
 not-accepted (refused number offset) e = cc
 not-accepted (ok bytes) e = zero-not-one (cc)
 
@@ -88,13 +75,13 @@ row_is values i space h = rw (drop-cons values i 0, add-one i)
 
 -- a turn that writes the varint of the value at i: the call is lent what out has from `at` on, and leaves `part` there, which makes next
 module _ (values : List ℕ) (i : ℕ) {row old out : List ℕ} {at : ℕ} (f : Filled row old out at (row_bytes (drop i values) (length old - at)))
-    (h : i < length values) {answer : Answer} {part next : List ℕ} (told : answer ≡ uvarint_write_answer (get_or values i 0) (length (drop at out)))
+    (h : i < length values) {answer : Outcome ℕ} {part next : List ℕ} (told : answer ≡ uvarint_write_answer (get_or values i 0) (length (drop at out)))
     (left : part ≡ uvarint_write_output (get_or values i 0) (drop at out)) (back : next ≡ take at out ++ part) where
   space-is : length (drop at out) ≡ length old - at
   space-is = length-drop at out ∙ ap (λ (n : ℕ). n - at) f.long
 
   -- the varint is written,
-  pub row_written : {n : ℕ} → answer ≡ Accepted n → Filled row old next (at + n) (row_bytes (drop (i + 1) values) (length old - (at + n)))
+  pub row_written : {n : ℕ} → answer ≡ ok n → Filled row old next (at + n) (row_bytes (drop (i + 1) values) (length old - (at + n)))
   unfolding uvarint_write_answer uvarint_write_output stored
   row_written {n} e =
       accepted (uvarint_write_outcome (get_or values i 0) (length (drop at out))) (sym told ∙ e) λ bytes o size.
@@ -106,7 +93,7 @@ module _ (values : List ℕ) (i : ℕ) {row old out : List ℕ} {at : ℕ} (f : 
       (back ∙ ap (λ (l : List ℕ). take at out ++ l) (left ∙ rw (o, size)))
 
   -- or there is no room for it: the output is as it was, and the row ends
-  pub row-refused : {number offset : ℕ} → answer ≡ Refused number offset → (row_bytes (drop i values) (length old - at) ≡ []) × (next ≡ out)
+  pub row-refused : {number offset : ℕ} → answer ≡ refused number offset → (row_bytes (drop i values) (length old - at) ≡ []) × (next ≡ out)
   unfolding uvarint_write_answer uvarint_write_output
   row-refused {number} {offset} e =
       let x = get_or values i 0 in

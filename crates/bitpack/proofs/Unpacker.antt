@@ -4,12 +4,17 @@ use mathlib.Core.Path.{◌≡◌, refl, sym, ap, ap₂, ◌∙◌}
 use Prim.Native.Nat.{ℕ, ◌+◌, ◌*◌, ◌/◌, ◌%◌, ◌^◌, ◌≤◌, ◌<◌}
 use native.Mathlib.Omega.{arith}
 use mathlib.Core.List.{List, [], ◌∷◌, ◌++◌}
-use lib.ListN.{length, set, drop, length-set}
+use lib.ListN.{length, set, take, drop, length-set}
 use Rattle.format.specs.Digits.{of_digits, digits}
 use Rattle.format.specs.Packing.{unpacked}
 use Rattle.format.proofs.Codecs.Counts.{length-unpacked}
 use Rattle.bitpack.specs.Loads.{Within}
-use Rattle.format.proofs.Numbers.Places.{pow-pow, digits-add}
+use Rattle.format.proofs.Numbers.All.{Below, all_drop}
+use Rattle.format.proofs.Numbers.Digits.{of_digits-lt}
+use Rattle.format.proofs.Numbers.Places.{pow-pow, digits-add, of_digits-drop, of_digits-take}
+use native.Mathlib.Decide.{dec_le}
+use native.Mathlib.Nat.{mod-eq_of_lt, pow-le-pow_right, zero-lt-suc}
+use lib.Seq.{take_all}
 use Rattle.bitpack.proofs.Stores.{fill_step, front-past}
 
 pub record Filled (w : ℕ) (s out₀ out : List ℕ) (i : ℕ) : Type 0 where
@@ -46,6 +51,20 @@ module _ {w : ℕ} {s : List ℕ} where
         }
 
 -- ---- the word of value i, where k values have theirs inside
+
+-- eight bytes from a place on, or those that are there, are a part of the number that the bytes make
+pub word_part : {s : List ℕ} (p : ℕ) {x : ℕ} → Below 256 s → x ≡ of_digits 256 (take 8 (drop p s)) → x ≡ of_digits 256 s / 256 ^ p % 2 ^ 64
+word_part {s} p h e = e ∙ front (all_drop p h) ∙ ap (λ (n : ℕ). n % 2 ^ 64) (of_digits-drop p h)
+  where
+    front : {l : List ℕ} → Below 256 l → of_digits 256 (take 8 l) ≡ of_digits 256 l % 2 ^ 64
+    front {l} b = go (dec_le 8 (length l))
+      where
+        go : Dec (8 ≤ length l) → of_digits 256 (take 8 l) ≡ of_digits 256 l % 2 ^ 64
+        go (yes long) = of_digits-take 8 b long
+        go (no short) =
+            let few : length l ≤ 8 = omega arith in
+            let small : of_digits 256 l < 2 ^ 64 = omega (arith, of_digits-lt b, pow-le-pow_right (zero-lt-suc 255) few) in
+            ap (of_digits 256) (take_all 8 l (omega arith)) ∙ sym (mod-eq_of_lt small)
 
 module _ {len w k i : ℕ} (h : Within len w k k) (lt : i < k) where
   inside : (w ≤ 57) × (k * w + 64 ≤ len * 8)

@@ -3,6 +3,7 @@ ghost use Rattle.std.specs.Prelude.{◌≡◌, ◌++◌, ◌≤◌, length, drop
 ghost use Rattle.format.specs.Packing.{packed_len, packed};
 
 use crate::words::{mask, put_bytes};
+use number::words::store;
 
 // acc holds the bits, fewer than 64, that are not stored yet; p bytes are stored.
 pub(crate) fn pack_into(vs: &[u64], w: usize, out: &mut [u8])
@@ -13,21 +14,19 @@ pub(crate) fn pack_into(vs: &[u64], w: usize, out: &mut [u8])
     let mut acc: u64 = 0;
     let mut bits: usize = 0;
     let mut p: usize = 0;
-    let mut i: usize = 0;
-    while i < vs.len() {
-        let v = vs[i] & m;
+    for &value in vs {
+        let v = value & m;
         let x = acc | (v << bits);
-        i += 1;
         if bits + w < 64 {
             acc = x;
             bits += w;
         } else {
-            put_bytes(out, p, x, 8);
+            store(x, out, p);
             // Never a shift by 64.
             acc = (v >> (63 - bits)) >> 1;
             p += 8;
             bits = bits + w - 64;
         }
     }
-    put_bytes(out, p, acc, (bits + 7) / 8);
+    put_bytes(out, p, acc, bits.div_ceil(8));
 }

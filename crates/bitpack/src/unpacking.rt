@@ -5,7 +5,8 @@ ghost use Rattle.format.specs.Encodings.{max_chunk_elements};
 ghost use Rattle.format.specs.Packing.{unpacked};
 ghost use Rattle.bitpack.specs.Loads.{Within};
 
-use crate::words::{byte_at, load, mask, word};
+use crate::words::mask;
+use number::words::{byte_at, load, load_padded};
 
 // The w bits from bit on; m is their mask.
 fn value_at(s: &[u8], w: usize, m: u64, bit: usize) -> u64
@@ -18,11 +19,11 @@ fn value_at(s: &[u8], w: usize, m: u64, bit: usize) -> u64
     }
     let p = bit / 8;
     let off = bit % 8;
-    let lo = load(s, p) >> off;
+    let lo = load_padded(s, p) >> off;
     if off + w <= 64 {
         return lo & m;
     }
-    let hi = byte_at(s, p + 8) << (64 - off);
+    let hi = u64::from(byte_at(s, p + 8)) << (64 - off);
     (lo | hi) & m
 }
 
@@ -31,17 +32,11 @@ fn value_at(s: &[u8], w: usize, m: u64, bit: usize) -> u64
 fn within(len: usize, w: usize, n: usize) -> usize
     ensures { Within len w n result }
 {
-    if w == 0 {
-        return 0;
-    }
-    if w > 57 {
-        return 0;
-    }
-    if len < 8 {
+    if w == 0 || w > 57 || len < 8 {
         return 0;
     }
     let q = (len - 8) / w;
-    if q < n / 8 { q * 8 } else { n / 8 * 8 }
+    q.min(n / 8) * 8
 }
 
 // Those k values: one load, shift and mask for each.
@@ -51,7 +46,7 @@ fn unpack_words(s: &[u8], w: usize, m: u64, k: usize, out: &mut [u64])
 {
     for i in 0..k {
         let bit = i * w;
-        out[i] = (word(s, bit / 8) >> (bit % 8)) & m;
+        out[i] = (load(s, bit / 8) >> (bit % 8)) & m;
     }
 }
 

@@ -2,33 +2,50 @@
 -- questions, and that a body that was passed lies inside the chunk.
 use mathlib.Core.Path.{◌≡◌, sym, ap, ap₂, ◌∙◌}
 use mathlib.Core.List.{List, ◌∷◌, map}
-use Prim.Native.Nat.{ℕ, ◌+◌, ◌≤◌}
+use Prim.Native.Nat.{ℕ, ◌+◌, ◌^◌, ◌≤◌, ◌<◌}
+use native.Mathlib.Omega.{arith}
 use lib.IntN.{ℤ}
 use lib.ListN.{length, length-map}
 use borrow.Author.Tests.{le-leb}
-use Rattle.format.specs.Outcome.{ok}
+use Rattle.format.specs.Answers.{count_of}
+use Rattle.format.specs.Standalone.{packed_len_answer}
 use Rattle.format.specs.Encodings.{max_chunk_elements}
 use Rattle.format.specs.Keys.{zigzag}
-use Rattle.format.specs.Varint.{Extent}
 use Rattle.format.specs.Width.{width}
 use Rattle.format.specs.Folds.{largest}
 use Rattle.format.specs.Packing.{packed_len, packed, width_at, packed_end}
 use Rattle.format.specs.BitPacked.{packed_body, bit_packed_body, validate_bit_packed}
 use Rattle.format.specs.Chunk.{body_of, validate_body}
 use Rattle.format.specs.Parts.{packed_extent}
-use Rattle.format.specs.declared.Encoding.TheVariants.{BitPacked}
-use Rattle.format.specs.declared.Padded.{Padded}
+use Rattle.format.specs.declared.encoding.Encoding.TheVariants.{BitPacked}
+use Rattle.format.specs.declared.Header.{Header}
 use Rattle.format.proofs.Codecs.Outcome.{both-passed}
 use Rattle.format.proofs.Lengths.Parts.{length-packed_body}
+use Rattle.format.proofs.Numbers.Packing.{packed_len-most}
+use Rattle.format.proofs.Numbers.Widths.{width-le}
+use Rattle.places.proofs.Blocks.{packed-counted}
 use Rattle.places.specs.Packed.{Inside}
+use Rattle.std.specs.Prelude.{Option}
+use Rattle.codec.specs.Valid.{Valid}
 use Rattle.codec.proofs.Settling.{passed-inside}
 
 -- ---- writing
 
 module _ (column : List ℤ) {w : ℕ} (e : w ≡ width (largest (map zigzag column))) where
+  pub narrow : w ≤ 64
+  narrow = rw e (width-le _)
+
   pub body-length : length (body_of BitPacked column) ≡ 1 + packed_len (length column) w
   unfolding body_of bit_packed_body
   body-length = length-packed_body (map zigzag column) ∙ ap₂ (λ (n k : ℕ). 1 + packed_len n k) (length-map column zigzag) (sym e)
+
+  -- its packed bytes, and that they are few
+  module _ {n bytes : ℕ} (same : n ≡ length column) (few : n ≤ max_chunk_elements) (counted : bytes ≡ count_of (packed_len_answer n w)) where
+    pub body-measured : 1 + bytes ≡ length (body_of BitPacked column)
+    body-measured = omega (arith, counted, packed-counted n w few narrow, ap (λ (k : ℕ). packed_len k w) same, body-length)
+
+    pub body-short : bytes < 2 ^ 31
+    body-short = omega (arith, counted, packed-counted n w few narrow, packed_len-most n w narrow)
 
   pub body_is : w ∷ packed w (map zigzag column) ≡ body_of BitPacked column
   unfolding body_of bit_packed_body packed_body
@@ -36,15 +53,14 @@ module _ (column : List ℤ) {w : ℕ} (e : w ≡ width (largest (map zigzag col
 
 -- ---- reading
 
-module _ (s : List ℕ) (start count : ℕ) (padded : Padded) (few : count ≤ max_chunk_elements) where
-  -- no count that a header has is refused
-  pub extent-asked : packed_extent s start count padded ≡ validate_body BitPacked s start count padded
-  unfolding packed_extent validate_body validate_bit_packed
-  extent-asked = rw (le-leb count max_chunk_elements few)
+-- no count that a header has is refused
+pub extent-asked : (s : List ℕ) (start count : ℕ) (padded : Option ℕ) → count ≤ max_chunk_elements → packed_extent s start count padded ≡ validate_body BitPacked s start count padded
+unfolding packed_extent validate_body validate_bit_packed
+extent-asked s start count padded few = rw (le-leb count max_chunk_elements few)
 
-  pub body-inside : {x : Extent} → validate_body BitPacked s start count padded ≡ ok x → Inside s start count
-  unfolding validate_body validate_bit_packed
-  body-inside h =
-      both-passed (width_at s start) _ h λ w byte h₁.
-      both-passed (packed_end s (start + 1) w count) _ h₁ λ end rest h₂.
-      passed-inside few byte rest
+pub body-inside : {s : List ℕ} {h : Header} → Valid BitPacked s h → Inside s h.start h.count
+unfolding validate_body validate_bit_packed
+body-inside {s} {h} v =
+    both-passed (width_at s h.start) _ v.passed λ w byte h₁.
+    both-passed (packed_end s (h.start + 1) w h.count) _ h₁ λ end rest h₂.
+    passed-inside v.few byte rest

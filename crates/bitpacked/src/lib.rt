@@ -1,53 +1,56 @@
 // Encoding 3, BitPacked: a width byte, and the ZigZags of the column packed at that width (the Rust's `BitPackedCodec`).
 #![tactic(auto)]
 
-ghost use Rattle.std.specs.Prelude.{◌≡◌, length};
-ghost use Rattle.format.specs.Header.{named};
-ghost use Rattle.format.specs.Read.{read_answer, read_column};
-ghost use Rattle.format.specs.Write.{write_answer, write_output};
+ghost use Rattle.std.specs.Prelude.{◌≡◌, map, refl};
+ghost use Rattle.format.specs.Folds.{largest};
+ghost use Rattle.format.specs.Keys.{zigzag};
+ghost use Rattle.format.specs.Width.{width};
+ghost use Rattle.format.specs.declared.encoding.Encoding.TheVariants as Encodings;
 
-use codec::body::{settle, settle_packed};
-use codec::header::{header_len, put_header, read_header, refusal_of_header};
-use format::limits::MAX_CHUNK_ELEMENTS;
-use format::refusal::{BUFFER_TOO_SHORT, COLUMN_ABOVE_LIMIT};
-use format::{Answer, Encoding, HeaderAnswer};
+use codec::body::settle_packed;
+use codec::chunk::{Codec, Encoder, lacking_for};
+use format::{Encoding, Extent, Header, Refusal};
 use places::block::packed_bytes;
+use places::unpacked::fill_by;
+use zigzags::ZigZags;
 
-pub(crate) mod reading;
 pub(crate) mod writing;
+pub(crate) mod zigzags;
 
-// Writes the column's chunk to the front of `out`.
-pub fn encode(column: &[i64], out: &mut [u8]) -> Answer
-    ensures value { result ≡ write_answer 3 column.now 0 (length out.old) }
-    ensures out_after { out.new ≡ write_output 3 column.now 0 out.old }
-{
-    if column.len() > MAX_CHUNK_ELEMENTS {
-        return Answer::Refused(COLUMN_ABOVE_LIMIT, 0);
+pub struct BitPacked;
+
+impl Codec for BitPacked {
+    ghost ENCODING = { Encodings.BitPacked };
+
+    const ENCODING: Encoding = Encoding::BitPacked;
+
+    fn settle_body(chunk: &[u8], strict: bool, header: Header) -> Result<Extent, Refusal> {
+        settle_packed(chunk, header.start, header.count, header.padded)
     }
-    let width = writing::widest(column);
-    let needed = header_len(column.len()) + 1 + packed_bytes(column.len(), width);
-    if out.len() < needed {
-        return Answer::Refused(BUFFER_TOO_SHORT, needed);
+
+    fn fill(chunk: &[u8], header: Header, column: &mut [i64]) {
+        fill_by(chunk, header.start, header.count, &mut ZigZags, column)
     }
-    let at = put_header(Encoding::BitPacked, column.len(), out);
-    writing::store(column, width, out, at);
-    Answer::Accepted(needed)
 }
 
-// Reads a chunk to the front of `column`.
-pub fn decode(chunk: &[u8], strict: bool, column: &mut [i64]) -> Answer
-    ensures value { result ≡ read_answer strict (named 3) chunk.now (length column.old) }
-    ensures column_after { column.new ≡ read_column strict (named 3) chunk.now column.old }
-{
-    let header = read_header(chunk, 3);
-    let HeaderAnswer::Found(count, start, padded) = header else {
-        return refusal_of_header(header);
-    };
-    let body = settle_packed(chunk, start, count, padded);
-    let answer = settle(chunk, strict, count, column.len(), body);
-    let Answer::Accepted(n) = answer else {
-        return answer;
-    };
-    reading::fill(chunk, start, n, column);
-    answer
+impl Encoder for BitPacked {
+    // The width.
+    type Measured = u32;
+
+    ghost suits = { λ column bits. bits ≡ width (largest (map zigzag column)) };
+
+    ghost scratchless = { λ k. refl };
+
+    fn measure(column: &[i64]) -> u32 {
+        writing::widest(column)
+    }
+
+    fn lacking(column: &[i64], width: u32, space: usize) -> Option<usize> {
+        lacking_for(column.len(), 1 + packed_bytes(column.len(), width), space)
+    }
+
+    fn store(column: &[i64], width: u32, out: &mut [u8], at: usize) -> usize {
+        writing::store(column, width, out, at);
+        at + 1 + packed_bytes(column.len(), width)
+    }
 }

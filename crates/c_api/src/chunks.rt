@@ -5,7 +5,7 @@ ghost use Rattle.format.specs.Read.{read_answer, read_column};
 ghost use Rattle.format.specs.Write.{write_answer, write_output, write_scratch};
 ghost use Rattle.c_api.specs.Told.{told};
 
-use crate::{number_of, place_of};
+use crate::tell;
 
 // Writes a column in the encoding with a number, 1 to 7, to the front of `out`.
 #[unsafe(no_mangle)]
@@ -21,9 +21,10 @@ pub extern "C" fn wb_encode_integers(
     ensures scratch_after { scratch.new ≡ write_scratch encoding column.now scratch.old }
     ensures out_after { out.new ≡ write_output encoding column.now (length scratch.old) out.old }
 {
-    let answer = integer::encode_integers(column, encoding, scratch, out);
-    *place = place_of(answer);
-    number_of(answer)
+    tell(
+        integer::encode_integers(column, encoding, scratch, out),
+        place,
+    )
 }
 
 // Reads a chunk, strictly or not, to the front of `column`. Its first byte says the encoding.
@@ -37,9 +38,7 @@ pub extern "C" fn wb_decode_integers(
     ensures place_after { (result, place.new) ≡ told (read_answer strict unnamed chunk.now (length column.old)) }
     ensures column_after { column.new ≡ read_column strict unnamed chunk.now column.old }
 {
-    let answer = integer::decode_integers(chunk, strict, column);
-    *place = place_of(answer);
-    number_of(answer)
+    tell(integer::decode_integers(chunk, strict, column), place)
 }
 
 // The same by a reading that names the encoding, by its number.
@@ -55,7 +54,8 @@ pub extern "C" fn wb_decode_named(
         ≡ told (read_answer strict (named encoding) chunk.now (length column.old)) }
     ensures column_after { column.new ≡ read_column strict (named encoding) chunk.now column.old }
 {
-    let answer = integer::decode_named(chunk, encoding, strict, column);
-    *place = place_of(answer);
-    number_of(answer)
+    tell(
+        integer::decode_named(chunk, encoding, strict, column),
+        place,
+    )
 }

@@ -3,13 +3,15 @@
 //
 // A caller in C passes a slice as two arguments, a pointer and a count of elements, and `&mut usize` as a pointer. An enum does not
 // cross `extern "C"`: of an answer the number is returned, and the count or the offset is stored through the last pointer. A record is a
-// row of 64-bit numbers here (`rows`) and a struct in the header.
+// struct of `rows`, which has the fields of the header's; of a refused call it is the default: every number 0, but a plan's encoding 1
+// and a cardinality exact.
 #![tactic(auto)]
 
 ghost use Rattle.std.specs.Prelude.{◌≡◌};
+ghost use Rattle.format.specs.Answers.{outcome_of};
 ghost use Rattle.c_api.specs.Told.{told};
 
-use format::Answer;
+use format::Refusal;
 
 pub mod chunks;
 pub mod columns;
@@ -17,22 +19,18 @@ pub mod numbers;
 pub mod packing;
 pub mod varint_calls;
 
-// An answer's number: 0 where it is accepted.
-pub(crate) fn number_of(answer: Answer) -> u32
-    ensures { result ≡ (told answer).0 }
+// Tells an answer: 0 and the count, or why it is refused and the offset.
+pub(crate) fn tell(answer: Result<usize, Refusal>, place: &mut usize) -> u32
+    ensures { (result, place.new) ≡ told (outcome_of answer) }
 {
     match answer {
-        Answer::Accepted(_) => 0,
-        Answer::Refused(number, _) => number,
-    }
-}
-
-// An answer's count, or its offset where it is refused.
-pub(crate) fn place_of(answer: Answer) -> usize
-    ensures { result ≡ (told answer).1 }
-{
-    match answer {
-        Answer::Accepted(count) => count,
-        Answer::Refused(_, offset) => offset,
+        Ok(count) => {
+            *place = count;
+            0
+        }
+        Err(refusal) => {
+            *place = refusal.offset;
+            refusal.kind.number()
+        }
     }
 }

@@ -3,16 +3,14 @@ ghost use Rattle.std.specs.Prelude.{◌≡◌, length};
 ghost use Rattle.format.specs.Standalone.{packed_len_answer, pack_answer, pack_output, unpack_answer, unpack_buffer};
 ghost use Rattle.c_api.specs.Told.{told};
 
-use crate::{number_of, place_of};
+use crate::tell;
 
 // How many bytes so many values are packed in.
 #[unsafe(no_mangle)]
 pub extern "C" fn wb_packed_len(count: usize, width: u32, place: &mut usize) -> u32
     ensures { (result, place.new) ≡ told (packed_len_answer count width) }
 {
-    let answer = bitpack::packed_len(count, width);
-    *place = place_of(answer);
-    number_of(answer)
+    tell(bitpack::packed_len(count, width), place)
 }
 
 // Packs values to the front of `out`.
@@ -21,9 +19,7 @@ pub extern "C" fn wb_pack(values: &[u64], width: u32, out: &mut [u8], place: &mu
     ensures place_after { (result, place.new) ≡ told (pack_answer values.now width (length out.old)) }
     ensures out_after { out.new ≡ pack_output values.now width out.old }
 {
-    let answer = bitpack::pack(values, width, out);
-    *place = place_of(answer);
-    number_of(answer)
+    tell(bitpack::pack(values, width, out), place)
 }
 
 // Unpacks values to the front of `out`.
@@ -38,7 +34,5 @@ pub extern "C" fn wb_unpack(
     ensures place_after { (result, place.new) ≡ told (unpack_answer bytes.now width count (length out.old)) }
     ensures out_after { out.new ≡ unpack_buffer bytes.now width count out.old }
 {
-    let answer = bitpack::unpack(bytes, width, count, out);
-    *place = place_of(answer);
-    number_of(answer)
+    tell(bitpack::unpack(bytes, width, count, out), place)
 }

@@ -1,6 +1,4 @@
-pub mod Numbers
-pub mod Settling
 pub mod Rows
-pub mod Headers
+pub mod Settling
 pub mod Writing
 pub mod Reading

@@ -1,30 +1,17 @@
--- A walk along varints that asks: what is left to be asked is the whole. A varint that is read takes the walk one on, and a refused one ends it.
+-- A walk along varints that asks: what is left to be asked, by whether one is left.
 use mathlib.Core.Path.{◌≡◌}
-use mathlib.Core.Bool.{Bool}
 use mathlib.Core.List.{List}
 use Prim.Native.Nat.{ℕ, suc, ◌-◌, ◌+◌, ◌<◌, ◌≤◌}
 use native.Mathlib.Omega.{arith}
-use Rattle.format.specs.Outcome.{refused, ok}
-use Rattle.format.specs.Varint.{first_padded, validate_uvarints}
-use Rattle.format.specs.Standalone.{uvarint_answer}
-use Rattle.format.specs.declared.Padded.{Padded}
-use Rattle.format.specs.declared.UvarintAnswer.TheVariants.{Read, Malformed}
-use Rattle.varint.proofs.Answers.{answer-read, answer-malformed}
+use Rattle.std.specs.Prelude.{Option}
+use Rattle.format.specs.Outcome.{ok, ◌>>=◌}
+use Rattle.format.specs.Varint.{read_uvarint, first_padded, validate_uvarints}
 
-module _ (s : List ℕ) (at : ℕ) (padded : Padded) {n i : ℕ} where
-  pub row_read : {value next : ℕ} {unpadded : Bool} → i < n → uvarint_answer s at ≡ Read value next unpadded
-      → validate_uvarints s next (n - (i + 1)) (first_padded padded at unpadded) ≡ validate_uvarints s at (n - i) padded
+module _ (s : List ℕ) (at n i : ℕ) (padded : Option ℕ) where
+  pub row_next : i < n → validate_uvarints s at (n - i) padded ≡ (read_uvarint s at >>= λ v. validate_uvarints s v.next (n - (i + 1)) (first_padded padded at v.unpadded))
   unfolding validate_uvarints
-  row_read {value} {next} {unpadded} h e =
-      let k : n - i ≡ suc (n - (i + 1)) = omega arith in
-      rw (k, answer-read s at e)
+  row_next h = let k : n - i ≡ suc (n - (i + 1)) = omega arith in rw k
 
-  pub row-refused : {number offset : ℕ} → i < n → uvarint_answer s at ≡ Malformed number offset → validate_uvarints s at (n - i) padded ≡ refused number offset
+  pub row_end : n ≤ i → validate_uvarints s at (n - i) padded ≡ ok (record { end = at; padded = padded })
   unfolding validate_uvarints
-  row-refused h e =
-      let k : n - i ≡ suc (n - (i + 1)) = omega arith in
-      rw (k, answer-malformed s at e)
-
-  pub row-end : n ≤ i → validate_uvarints s at (n - i) padded ≡ ok (record { end = at; padded = padded })
-  unfolding validate_uvarints
-  row-end h = let k : n - i ≡ 0 = omega arith in rw k
+  row_end h = let k : n - i ≡ 0 = omega arith in rw k

@@ -9,32 +9,22 @@ use lib.IntN.{ℤ}
 use lib.ListN.{length, length-append}
 use lib.Seq.{sets, length-sets}
 use borrow.Author.Tests.{le-leb, lt-leb}
-use Rattle.format.specs.Outcome.{Outcome, ok}
+use Rattle.format.specs.Outcome.{Outcome, ok, refused}
 use Rattle.format.specs.Encodings.{id_of, max_chunk_elements}
 use Rattle.format.specs.Header.{header_bytes, header_len}
 use Rattle.format.specs.Answers.{stored}
 use Rattle.format.specs.Chunk.{body_of, chunk_of}
 use Rattle.format.specs.Write.{for_dictionary, write_checks, write_outcome, write_answer, write_output}
-use Rattle.format.specs.declared.Answer.{Answer}
-use Rattle.format.specs.declared.Answer.TheVariants.{Accepted, Refused}
 use Rattle.format.specs.declared.Encoding.{Encoding}
 use Rattle.format.proofs.Codecs.Encodings.{encoding_of-id, id-within}
 use Rattle.format.proofs.Codecs.Header.{length-header_bytes}
 use Rattle.format.proofs.Numbers.Stores.{sets-append, sets-stored}
 use Rattle.places.specs.Places.{fitting, laid, laid_end}
-use Rattle.codec.specs.Lacking.{Lacking}
 
 -- how long a chunk is
 pub length-chunk : (e : Encoding) (column : List ℤ) → length (chunk_of e column) ≡ header_len (length column) + length (body_of e column)
 unfolding chunk_of
 length-chunk e column = length-append (header_bytes (id_of e) (length column)) (body_of e column) ∙ ap (λ (n : ℕ). n + length (body_of e column)) (length-header_bytes (id_of e) (length column))
-
--- there is room, or there is too little
-pub lacking-none : {needed space : ℕ} → needed ≤ space → Lacking needed space 0
-lacking-none h = record { enough = λ e. h; short = λ k. absurd (omega arith) }
-
-pub lacking-some : {needed space r : ℕ} → r ≡ needed → space < r → Lacking needed space r
-lacking-some e h = record { enough = λ z. absurd (omega arith); short = λ k. (e, omega arith) }
 
 -- header and body, stored one after the other
 module _ (e : Encoding) (column : List ℤ) (output : List ℕ) {needed : ℕ} (measured : needed ≡ header_len (length column) + length (body_of e column))
@@ -72,10 +62,10 @@ module _ (e : Encoding) (column : List ℤ) (output : List ℕ) {needed : ℕ} (
 
 module _ (e : Encoding) (column : List ℤ) (room : ℕ) (output : List ℕ) where
   -- an answer to writing, and the output after it
-  abbrev pub Written : Answer → List ℕ → Type 0
+  abbrev pub Written : Outcome ℕ → List ℕ → Type 0
   Written answer out = (answer ≡ write_answer (id_of e) column room (length output)) × (out ≡ write_output (id_of e) column room output)
 
-  pub write-many : max_chunk_elements < length column → Written (Refused 21 0) output
+  pub write-many : max_chunk_elements < length column → Written (refused 21 0) output
   unfolding write_answer write_output write_outcome write_checks
   write-many h = simp (id-within e, lt-leb (length column) max_chunk_elements h) (refl, refl)
 
@@ -85,14 +75,14 @@ module _ (e : Encoding) (column : List ℤ) (room : ℕ) (output : List ℕ) whe
       same : needed ≡ length (chunk_of e column)
       same = measured ∙ sym (length-chunk e column)
 
-      pub write-short : length output < needed → Written (Refused 20 needed) output
+      pub write-short : length output < needed → Written (refused 20 needed) output
       unfolding write_answer write_output write_outcome write_checks
       write-short h =
           simp (id-within e, le-leb (length column) max_chunk_elements few, encoding_of-id e, scratchless, lt-leb (length (chunk_of e column)) (length output) (omega (arith, same, h)))
-          (ap (λ (n : ℕ). Refused 20 n) same, refl)
+          (ap (λ (n : ℕ). refused 20 n) same, refl)
 
-      pub write_done : needed ≤ length output → {out : List ℕ} → out ≡ stored (chunk_of e column) output → Written (Accepted needed) out
+      pub write_done : needed ≤ length output → {out : List ℕ} → out ≡ stored (chunk_of e column) output → Written (ok needed) out
       unfolding write_answer write_output write_outcome write_checks
       write_done h done =
           simp (id-within e, le-leb (length column) max_chunk_elements few, encoding_of-id e, scratchless, le-leb (length (chunk_of e column)) (length output) (omega (arith, same, h)))
-          (ap Accepted same, done)
+          (ap ok same, done)

@@ -1,6 +1,6 @@
--- Whether space is lacking, as a number: 0, or the length needed.
-use Rattle.std.specs.Prelude.{ℕ, ◌<◌, ◌≤◌, ◌≡◌}
+-- Whether space is lacking: nothing, or the length needed.
+use Rattle.std.specs.Prelude.{ℕ, ◌<◌, ◌≤◌, ◌≡◌, Option, Some, None}
 
-pub record Lacking (needed space r : ℕ) : Type 0 where
-  pub enough : r ≡ 0 → needed ≤ space
-  pub short : 0 < r → (r ≡ needed) × (space < needed)
+abbrev pub Lacking : ℕ → ℕ → Option ℕ → Type 0
+Lacking needed space None = needed ≤ space
+Lacking needed space (Some long) = (long ≡ needed) × (space < needed)

@@ -1,2 +1,2 @@
-pub mod Refusals
 pub mod Lacking
+pub mod Valid

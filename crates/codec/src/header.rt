@@ -1,16 +1,15 @@
 // The chunk's header: id, version, count.
-ghost use Rattle.std.specs.Prelude.{◌≡◌, length};
-ghost use Rattle.format.specs.Encodings.{id_of};
+ghost use Rattle.std.specs.Prelude.{◌≡◌, ◌≤◌, IfOk, length};
+ghost use Rattle.format.specs.Encodings.{id_of, max_chunk_elements};
 ghost use Rattle.format.specs.Encodings as Encodings;
-ghost use Rattle.format.specs.Header.{header_bytes, header_len};
-ghost use Rattle.format.specs.Parts.{peek_answer, header_answer, header_answer_of};
+ghost use Rattle.format.specs.Answers.{outcome_of};
+ghost use Rattle.format.specs.Header.{header_bytes, header_len, named, read_header};
+ghost use Rattle.format.specs.Parts.{peeked};
 ghost use Rattle.places.specs.Places.{fitting, laid, laid_end};
-ghost use Rattle.codec.specs.Refusals.{refusal_of_count, refusal_of_header, count_outcome};
 
 use crate::body::first_padded;
-use crate::{encoding_id, encoding_of};
 use format::limits::{CODEC_VERSION, MAX_CHUNK_ELEMENTS};
-use format::{Answer, Encoding, EncodingAnswer, HeaderAnswer, Padded, UvarintAnswer};
+use format::{Encoding, Header, Kind, Refusal};
 use places::put_uvarint;
 
 // How many bytes a header has.
@@ -28,7 +27,7 @@ pub fn put_header(encoding: Encoding, count: usize, out: &mut [u8]) -> usize
     if out.len() < header_len(count) {
         return 0;
     }
-    out[0] = encoding_id(encoding) as u8;
+    out[0] = encoding.id();
     out[1] = CODEC_VERSION;
     put_uvarint(count as u64, out, 2)
 }
@@ -37,89 +36,57 @@ pub fn put_header(encoding: Encoding, count: usize, out: &mut [u8]) -> usize
 fn within(low: u32, high: u32, n: u32) -> bool
     ensures { result ≡ Encodings.within low high n }
 {
-    if n < low {
-        return false;
-    }
-    n <= high
+    low <= n && n <= high
 }
 
 // The encoding that a chunk's first byte says: the first questions of a reading that names none.
-pub fn peek_encoding(chunk: &[u8]) -> EncodingAnswer
-    ensures { result ≡ peek_answer chunk.now }
+#[tactic(auto, unfolding(format::specs::Parts::peeked, format::specs::Header::read_id, format::specs::Parts::encoding_named))]
+pub fn peek_encoding(chunk: &[u8]) -> Result<Encoding, Refusal>
+    ensures { outcome_of result ≡ peeked chunk.now }
 {
-    if chunk.len() == 0 {
-        return EncodingAnswer::Unknown(format::refusal::UNKNOWN_ID, 0);
-    }
-    let id = chunk[0] as u32;
-    if !within(1, 9, id) {
-        return EncodingAnswer::Unknown(format::refusal::UNKNOWN_ID, 0);
-    }
-    if !within(1, 7, id) {
-        return EncodingAnswer::Unknown(format::refusal::NOT_AN_INTEGER_ENCODING, 0);
-    }
-    if chunk.len() < 2 {
-        return EncodingAnswer::Unknown(format::refusal::NO_HEADER, 0);
-    }
-    encoding_of(id)
-}
-
-// The count's refusal as the header's. A count that was read has none: 0, at 0.
-fn refusal_of_count(answer: UvarintAnswer) -> HeaderAnswer
-    ensures { result ≡ refusal_of_count answer }
-{
-    match answer {
-        UvarintAnswer::Read(_, _, _) => HeaderAnswer::Malformed(0, 0),
-        UvarintAnswer::Malformed(number, offset) => HeaderAnswer::Malformed(number, offset),
-    }
-}
-
-// A header's refusal as the call's. A header that was read has none: 0, at 0.
-pub fn refusal_of_header(answer: HeaderAnswer) -> Answer
-    ensures { result ≡ refusal_of_header answer }
-{
-    match answer {
-        HeaderAnswer::Found(_, _, _) => Answer::Refused(0, 0),
-        HeaderAnswer::Malformed(number, offset) => Answer::Refused(number, offset),
-    }
-}
-
-// The count and what follows it. An answer has no id: the 0 that the definition is given stands for none, and any other number would do.
-fn read_count(chunk: &[u8]) -> HeaderAnswer
-    ensures { result ≡ header_answer_of (count_outcome 0 chunk.now) }
-{
-    let read = varint::read_uvarint(chunk, 2);
-    let UvarintAnswer::Read(count, start, unpadded) = read else {
-        return refusal_of_count(read);
+    let Some(&id) = chunk.first() else {
+        return Err(Kind::UnknownId.at(0));
     };
-    if count > MAX_CHUNK_ELEMENTS as u64 {
-        return HeaderAnswer::Malformed(format::refusal::COUNT_ABOVE_LIMIT, 2);
+    if !within(1, 9, id as u32) {
+        return Err(Kind::UnknownId.at(0));
     }
-    HeaderAnswer::Found(
-        count as usize,
-        start,
-        first_padded(Padded::Nowhere, 2, unpadded),
-    )
+    let encoding = Encoding::try_from(id as u32)?;
+    if chunk.len() < 2 {
+        return Err(Kind::NoHeader.at(0));
+    }
+    Ok(encoding)
 }
 
 // Reads the header of a chunk by a reading that names its encoding.
-pub fn read_header(chunk: &[u8], name: u32) -> HeaderAnswer
-    ensures { result ≡ header_answer name chunk.now }
+#[tactic(auto, unfolding(format::specs::Header::read_header, format::specs::Header::read_id))]
+pub fn read_header(chunk: &[u8], name: u32) -> Result<Header, Refusal>
+    ensures told { outcome_of result ≡ read_header (named name) chunk.now }
+    ensures found { IfOk result (λ h. (h.count ≤ max_chunk_elements) × (h.start ≤ length chunk.now)) }
 {
     if !within(1, 7, name) {
-        return HeaderAnswer::Malformed(format::refusal::NOT_AN_INTEGER_ENCODING, 0);
+        return Err(Kind::NotAnIntegerEncoding.at(0));
     }
     if chunk.len() < 2 {
-        return HeaderAnswer::Malformed(format::refusal::NO_HEADER, 0);
+        return Err(Kind::NoHeader.at(0));
     }
-    let id = chunk[0] as u32;
-    if !within(1, 9, id) {
-        return HeaderAnswer::Malformed(format::refusal::UNKNOWN_ID, 0);
+    let id = chunk[0];
+    if !within(1, 9, id as u32) {
+        return Err(Kind::UnknownId.at(0));
     }
-    if id != name {
-        return HeaderAnswer::Malformed(format::refusal::OTHER_ENCODING, 0);
+    if id as u32 != name {
+        return Err(Kind::OtherEncoding.at(0));
     }
     if chunk[1] != CODEC_VERSION {
-        return HeaderAnswer::Malformed(format::refusal::UNKNOWN_VERSION, 1);
+        return Err(Kind::UnknownVersion.at(1));
     }
-    read_count(chunk)
+    let count = varint::read_uvarint(chunk, 2)?;
+    if count.value > MAX_CHUNK_ELEMENTS as u64 {
+        return Err(Kind::CountAboveLimit.at(2));
+    }
+    Ok(Header {
+        id,
+        count: count.value as usize,
+        start: count.next,
+        padded: first_padded(None, 2, count.unpadded),
+    })
 }

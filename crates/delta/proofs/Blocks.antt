@@ -1,22 +1,22 @@
 -- Blocks stored one after the other. The deltas of the blocks left are those of the next block and those of the blocks after it, so what is left, summed behind what
 -- is stored, is the whole.
 use mathlib.Core.Path.{◌≡◌, ap, ◌∙◌}
-use mathlib.Core.Bool.{Bool}
 use mathlib.Core.List.{List, ◌++◌}
 use Prim.Native.Nat.{ℕ, ◌+◌, ◌-◌, ◌≤◌, ◌<◌, min}
 use native.Mathlib.Omega.{arith}
 use lib.IntN.{ℤ}
 use lib.ListN.{length, get_or}
-use Rattle.format.specs.Outcome.{ok}
+use Rattle.format.specs.Outcome.{refused, ok}
 use Rattle.format.specs.Keys.{zigzag, unzigzag}
-use Rattle.format.specs.Varint.{UvarintRead, read_uvarint}
+use Rattle.format.specs.Varint.{read_uvarint}
 use Rattle.format.specs.Packing.{packed_len, packed_values}
-use Rattle.format.specs.Standalone.{varint_answer}
+use Rattle.format.specs.Standalone.{read_varint}
 use Rattle.format.specs.Delta.{block_count, block_deltas}
-use Rattle.format.specs.declared.VarintAnswer.TheVariants.{Read, Malformed}
+use Rattle.format.specs.declared.Uvarint.{Uvarint}
+use Rattle.format.specs.declared.Varint.{Varint}
 use Rattle.format.proofs.Numbers.Keys.{unzigzag-zigzag}
 use Rattle.format.proofs.Codecs.Counts.{uvarint-again}
-use Rattle.varint.proofs.Answers.{signed-read, signed-malformed}
+use Rattle.varint.proofs.Answers.{signed-read, signed-refused}
 use Rattle.delta.specs.Summed.{from_least, summed}
 use Rattle.delta.specs.There.{BlocksThere}
 use Rattle.delta.proofs.Sums.{Summing, summing-none, summing-part, summing-done}
@@ -24,7 +24,7 @@ use Rattle.delta.proofs.Parts.{length-packed_deltas}
 use Rattle.delta.proofs.There.{block_count-more, block_count-none, next-there, read-there}
 
 -- the deltas of the next block, by its least delta and its width, and those after it
-abbrev from_low : List ℕ → ℕ → ℕ → ℕ → UvarintRead → ℕ → List ℤ
+abbrev from_low : List ℕ → ℕ → ℕ → ℕ → Uvarint → ℕ → List ℤ
 from_low s size k left low n =
     from_least (unzigzag low.value) (packed_values s (low.next + 1) (get_or s low.next 0) n)
     ++ block_deltas s size (low.next + 1 + packed_len n (get_or s low.next 0)) k (left - n)
@@ -40,44 +40,44 @@ pub blocks-none : (s : List ℕ) (size from deltas : ℕ) (l : List ℤ) → Blo
 blocks-none s size from deltas l b = record { sums = summing-none; there = b; count = omega arith }
 
 module _ (s : List ℕ) (size from deltas : ℕ) {l column : List ℤ} (at last left : ℕ) (some : 1 ≤ size) (b : Blocks s size from deltas l column at last left) where
-  module _ (key : ℤ) {start : ℕ} {unpadded : Bool} (more : 1 ≤ left) (r : varint_answer s at ≡ Read key start unpadded) where
-    low_read : read_uvarint s at ≡ ok (record { value = zigzag key; next = start; unpadded = unpadded })
+  module _ {low : Varint} (more : 1 ≤ left) (r : read_varint s at ≡ ok low) where
+    low_read : read_uvarint s at ≡ ok (record { value = zigzag low.value; next = low.next; unpadded = low.unpadded })
     low_read = signed-read s at r
 
-    next-deltas : let n = min left size in let w = get_or s start 0 in
+    next-deltas : let n = min left size in let w = get_or s low.next 0 in
         block_deltas s size at (block_count size left) left
-        ≡ from_least key (packed_values s (start + 1) w n) ++ block_deltas s size (start + 1 + packed_len n w) (block_count size (left - n)) (left - n)
+        ≡ from_least low.value (packed_values s (low.next + 1) w n) ++ block_deltas s size (low.next + 1 + packed_len n w) (block_count size (left - n)) (left - n)
     unfolding block_deltas from_least
     next-deltas =
         let n : ℕ = min left size in
         let k : ℕ = block_count size (left - n) in
         ap (λ (j : ℕ). block_deltas s size at j left) (block_count-more size left some more)
-        ∙ ap (λ (v : UvarintRead). from_low s size k left v n) (uvarint-again s at low_read)
-        ∙ ap (λ (z : ℤ). from_least z (packed_values s (start + 1) (get_or s start 0) n) ++ block_deltas s size (start + 1 + packed_len n (get_or s start 0)) k (left - n))
-        (unzigzag-zigzag key)
+        ∙ ap (λ (v : Uvarint). from_low s size k left v n) (uvarint-again s at low_read)
+        ∙ ap (λ (z : ℤ). from_least z (packed_values s (low.next + 1) (get_or s low.next 0) n) ++ block_deltas s size (low.next + 1 + packed_len n (get_or s low.next 0)) k (left - n))
+        (unzigzag-zigzag low.value)
 
     -- what the next block requires
-    pub block-there : {n : ℕ} → n ≡ min left size → (get_or s start 0 ≤ 64) × (start + 1 + packed_len n (get_or s start 0) ≤ length s)
+    pub block-there : {n : ℕ} → n ≡ min left size → (get_or s low.next 0 ≤ 64) × (low.next + 1 + packed_len n (get_or s low.next 0) ≤ length s)
     block-there e = let h = next-there s size at left some more b.there low_read in rw e (h.narrow, h.packed)
 
     -- a block more
-    pub blocks_more : (n : ℕ) {end : ℕ} {next : List ℤ} → n ≡ min left size → deltas < length l → end ≡ start + 1 + packed_len n (get_or s start 0)
-        → next ≡ summed column last (from_least key (packed_values s (start + 1) (get_or s start 0) n))
+    pub blocks_more : (n : ℕ) {end : ℕ} {next : List ℤ} → n ≡ min left size → deltas < length l → end ≡ low.next + 1 + packed_len n (get_or s low.next 0)
+        → next ≡ summed column last (from_least low.value (packed_values s (low.next + 1) (get_or s low.next 0) n))
         → Blocks s size from deltas l next end (last + n) (left - n)
     blocks_more n {end} {next} e room ee en =
-        let w : ℕ = get_or s start 0 in
-        let a : List ℤ = from_least key (packed_values s (start + 1) w n) in
+        let w : ℕ = get_or s low.next 0 in
+        let a : List ℤ = from_least low.value (packed_values s (low.next + 1) w n) in
         let rest : List ℤ = block_deltas s size end (block_count size (left - n)) (left - n) in
         let parted : block_deltas s size at (block_count size left) left ≡ a ++ rest = rw (ee, e) next-deltas in
         record {
-          sums = rw en (summing-part b.sums a rest parted (length-packed_deltas key s (start + 1) w n) (omega (arith, b.count, b.sums.long)));
+          sums = rw en (summing-part b.sums a rest parted (length-packed_deltas low.value s (low.next + 1) w n) (omega (arith, b.count, b.sums.long)));
           there = rw (ee, e) (next-there s size at left some more b.there low_read).rest;
           count = omega (arith, b.count);
         }
 
   -- the least delta was read
-  pub blocks-read : {number offset : ℕ} → 1 ≤ left → varint_answer s at ≡ Malformed number offset → ⊥
-  blocks-read more r = read-there s size at left some more b.there (signed-malformed s at r)
+  pub blocks-read : {number offset : ℕ} → 1 ≤ left → read_varint s at ≡ refused number offset → ⊥
+  blocks-read more r = read-there s size at left some more b.there (signed-refused s at r)
 
   -- nothing is left
   pub blocks-done : left ≡ 0 → column ≡ summed l 0 (block_deltas s size from (block_count size deltas) deltas)

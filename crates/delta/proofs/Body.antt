@@ -10,18 +10,19 @@ use lib.IntN.{ℤ, pos}
 use lib.ListN.{length, set}
 use lib.Seq.{sets, get_or-set_same}
 use borrow.Author.Tests.{leb-true}
-use Rattle.format.specs.Outcome.{ok, check}
+use Rattle.format.specs.Outcome.{refused, ok, check}
 use Rattle.format.specs.Answers.{stored}
 use Rattle.format.specs.Encodings.{within}
-use Rattle.format.specs.Standalone.{uvarint_answer, varint_answer}
+use Rattle.format.specs.Standalone.{read_varint}
 use Rattle.format.specs.Delta.{block_count, validate_delta, block_deltas, prefix_sums, delta_values}
-use Rattle.format.specs.declared.UvarintAnswer.TheVariants.{Read, Malformed}
-use Rattle.format.specs.declared.VarintAnswer.TheVariants.{Read as SignedRead, Malformed as SignedMalformed}
+use Rattle.format.specs.Varint.{read_uvarint}
+use Rattle.format.specs.declared.Uvarint.{Uvarint}
+use Rattle.format.specs.declared.Varint.{Varint}
 use Rattle.format.proofs.Numbers.Keys.{unzigzag-zigzag}
 use Rattle.format.proofs.Numbers.Stores.{sets-stored}
 use Rattle.format.proofs.Codecs.Outcome.{both-passed, check-passed}
 use Rattle.format.proofs.Codecs.Counts.{uvarint-again, delta-count}
-use Rattle.varint.proofs.Answers.{answer-read, answer-malformed, signed-read, signed-malformed}
+use Rattle.varint.proofs.Answers.{signed-read, signed-refused}
 use Rattle.delta.specs.Summed.{summed}
 use Rattle.delta.specs.There.{BlocksThere, BodyThere}
 
@@ -38,45 +39,45 @@ module _ (s : List ℕ) (start count : ℕ) (some : 0 < count) (b : BodyThere s 
   passed = ap (λ (n : ℕ). validate_delta s start n b.padded) (sym one_more) ∙ b.passed
 
   -- the first value was read,
-  pub first-there : {number offset : ℕ} → varint_answer s start ≡ SignedMalformed number offset → ⊥
+  pub first-there : {number offset : ℕ} → read_varint s start ≡ refused number offset → ⊥
   unfolding validate_delta
   first-there r =
-      let h = rw (signed-malformed s start r) at passed in
+      let h = rw (signed-refused s start r) at passed in
       let z : ◌≡◌ {A = ℕ} 0 1 = cc in
       omega arith
 
-  module _ (key : ℤ) {next : ℕ} {unpadded : Bool} (f : varint_answer s start ≡ SignedRead key next unpadded) where
+  module _ {first : Varint} (f : read_varint s start ≡ ok first) where
     -- and the block size,
-    pub size-there : {number offset : ℕ} → uvarint_answer s next ≡ Malformed number offset → ⊥
+    pub size-there : {number offset : ℕ} → read_uvarint s first.next ≡ refused number offset → ⊥
     unfolding validate_delta
     size-there r =
-        let h = rw (signed-read s start f, answer-malformed s next r) at passed in
+        let h = rw (signed-read s start f, r) at passed in
         let z : ◌≡◌ {A = ℕ} 0 1 = cc in
         omega arith
 
-    module _ {size blocks : ℕ} {plain : Bool} (r : uvarint_answer s next ≡ Read size blocks plain) where
+    module _ {size : Uvarint} (r : read_uvarint s first.next ≡ ok size) where
       -- which is 1 at least; and the blocks are there
-      pub blocks-there : (1 ≤ size) × BlocksThere s size blocks (count - 1)
+      pub blocks-there : (1 ≤ size.value) × BlocksThere s size.value size.next (count - 1)
       unfolding validate_delta
       blocks-there =
-          both-passed (check (within 1 (2 ^ 20) size) 19 blocks) _ (rw (signed-read s start f, answer-read s next r) at passed) λ _ one h.
-          (leb-true 1 size (and_left (leb 1 size) _ (check-passed _ 19 _ one)), record { padded = _; extent = b.extent; passed = h })
+          both-passed (check (within 1 (2 ^ 20) size.value) 19 size.next) _ (rw (signed-read s start f, r) at passed) λ _ one h.
+          (leb-true 1 size.value (and_left (leb 1 size.value) _ (check-passed _ 19 _ one)), record { padded = _; extent = b.extent; passed = h })
 
       -- the values
-      values-are : delta_values s start count ≡ key ∷ prefix_sums key (block_deltas s size blocks (block_count size (count - 1)) (count - 1))
+      values-are : delta_values s start count ≡ first.value ∷ prefix_sums first.value (block_deltas s size.value size.next (block_count size.value (count - 1)) (count - 1))
       unfolding delta_values
       values-are =
           ap (delta_values s start) one_more
-          ∙ rw (uvarint-again s start (signed-read s start f), uvarint-again s next (answer-read s next r), unzigzag-zigzag key)
+          ∙ rw (uvarint-again s start (signed-read s start f), uvarint-again s first.next r, unzigzag-zigzag first.value)
 
       -- THE COLUMN, when the first value is stored and the others behind it
       pub values-stored : (l : List ℤ) {column : List ℤ} → count ≤ length l
-          → column ≡ summed (set l 0 key) 0 (block_deltas s size blocks (block_count size (count - 1)) (count - 1)) → column ≡ stored (delta_values s start count) l
+          → column ≡ summed (set l 0 first.value) 0 (block_deltas s size.value size.next (block_count size.value (count - 1)) (count - 1)) → column ≡ stored (delta_values s start count) l
       unfolding summed
       values-stored l h e =
-          let ds : List ℤ = block_deltas s size blocks (block_count size (count - 1)) (count - 1) in
+          let ds : List ℤ = block_deltas s size.value size.next (block_count size.value (count - 1)) (count - 1) in
           e
-          ∙ ap (λ (v : ℤ). sets (set l 0 key) 1 (prefix_sums v ds)) (get_or-set_same l 0 key (pos 0) (omega arith))
+          ∙ ap (λ (v : ℤ). sets (set l 0 first.value) 1 (prefix_sums v ds)) (get_or-set_same l 0 first.value (pos 0) (omega arith))
           ∙ ap (sets l 0) (sym values-are)
           ∙ sets-stored (delta_values s start count) l (omega (arith, delta-count s start count b.padded b.passed))
 

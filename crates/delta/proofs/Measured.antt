@@ -3,11 +3,12 @@
 use mathlib.Core.Path.{◌≡◌, refl, sym, ap, ap₂, ◌∙◌}
 use mathlib.Core.List.{List, [], ◌∷◌, ◌++◌}
 use Prim.Native.Nat.{ℕ, zero, suc, ◌+◌, ◌-◌, ◌*◌, ◌≤◌, ◌<◌, min}
+use native.Mathlib.Decide.{dec_le}
 use native.Mathlib.Omega.{arith}
 use lib.Dec.{lit≤}
 use lib.IntN.{ℤ, pos}
-use lib.ListN.{length, get_or, take, drop, length-append, length-take, length-drop}
-use lib.Seq.{drop-drop}
+use lib.ListN.{length, get_or, take, drop, length-append, length-take, length-drop, drop_of_length-le}
+use lib.Seq.{take_all, take-length, drop-length}
 use Rattle.format.specs.Keys.{gap}
 use Rattle.format.specs.Varint.{uvarint_len, varint_len, uvarint_bytes, varint_bytes}
 use Rattle.format.specs.Width.{width}
@@ -20,12 +21,24 @@ use Rattle.format.proofs.Numbers.Uvarints.{length-uvarint_bytes}
 use Rattle.format.proofs.Numbers.Widths.{width-le, uvarint_len-le}
 use Rattle.format.proofs.Numbers.Packing.{packed_len-most}
 use Rattle.format.proofs.Lengths.DeltaLength.{block_len, blocks_len, length-block, length-blocks}
-use Rattle.places.proofs.Packing.{cut}
 use Rattle.delta.specs.Written.{blocks_of}
 use Rattle.delta.proofs.There.{block_count-more, block_count-none}
-use Rattle.delta.proofs.Windows.{length-deltas, window-deltas}
+use Rattle.delta.proofs.Windows.{length-deltas, first-deltas, later-deltas}
 
 -- ---- the next block, and the rest
+
+-- 128, or all that there are
+module _ (l : List ℤ) {n : ℕ} (e : n ≡ min (length l) 128) where
+  cut : (take 128 l ≡ take n l) × (drop 128 l ≡ drop n l)
+  cut = go (dec_le 128 (length l))
+    where
+      go : Dec (128 ≤ length l) → (take 128 l ≡ take n l) × (drop 128 l ≡ drop n l)
+      go (yes h) = let m : 128 ≡ n = omega arith in (ap (λ (k : ℕ). take k l) m, ap (λ (k : ℕ). drop k l) m)
+      go (no h) =
+          let m : length l ≡ n = omega arith in (
+            take_all 128 l (omega arith) ∙ sym (take-length l) ∙ ap (λ (k : ℕ). take k l) m,
+            drop_of_length-le l {i = 128} (omega arith) ∙ sym (drop-length l) ∙ ap (λ (k : ℕ). drop k l) m,
+          )
 
 module _ (ds : List ℤ) where
   pub blocks-empty : length ds ≡ 0 → blocks_of ds ≡ []
@@ -40,15 +53,15 @@ module _ (ds : List ℤ) where
       ap (λ (m : ℕ). blocks_bytes m ds) k
       ∙ ap₂ (λ (a b : List ℤ). block_bytes a ++ blocks_bytes (block_count 128 (length (drop n ds))) b) (cut ds e).0 (cut ds e).1
 
--- Of a walk along the column: the deltas from i on are still to come, and the next n of them are those of a window.
-pub next-window : (column : List ℤ) (i n : ℕ) → i + 1 < length column → n ≡ min (length column - 1 - i) 128
-    → blocks_of (drop i (deltas column)) ≡ block_bytes (deltas (take (i + n + 1 - i) (drop i column))) ++ blocks_of (drop (i + n) (deltas column))
-next-window column i n h e =
-    let left : length (drop i (deltas column)) ≡ length column - 1 - i = length-drop i (deltas column) ∙ ap (λ (k : ℕ). k - i) (length-deltas column) in
-    rw (← drop-drop n i (deltas column), window-deltas column i n refl) (blocks-next (drop i (deltas column)) n (omega arith) (rw left e))
+-- Of a walk along the column: the deltas of the rest are those of its next window, and those after them.
+pub next-window : (rest : List ℤ) (n : ℕ) → 1 < length rest → n ≡ min (length rest - 1) 128
+    → blocks_of (deltas rest) ≡ block_bytes (deltas (take (n + 1) rest)) ++ blocks_of (deltas (drop n rest))
+next-window rest n h e =
+    blocks-next (deltas rest) n (omega (arith, length-deltas rest)) (e ∙ ap (λ (k : ℕ). min k 128) (sym (length-deltas rest)))
+    ∙ ap₂ (λ (a b : List ℤ). block_bytes a ++ blocks_of b) (sym (first-deltas rest n)) (sym (later-deltas rest n))
 
-pub no-window : (column : List ℤ) (i : ℕ) → length column ≤ i + 1 → blocks_of (drop i (deltas column)) ≡ []
-no-window column i h = blocks-empty (drop i (deltas column)) (omega (arith, length-drop i (deltas column), length-deltas column))
+pub no-window : (rest : List ℤ) → length rest ≤ 1 → blocks_of (deltas rest) ≡ []
+no-window rest h = blocks-empty (deltas rest) (omega (arith, length-deltas rest))
 
 -- ---- lengths
 
@@ -59,12 +72,11 @@ unfolding block_len
 block-length column = length-block (deltas column) (deltas-keys column) ∙ omega arith
 
 -- what the next window adds to those before it
-pub total-more : (column : List ℤ) (i n total : ℕ) {size : ℕ} → total + length (blocks_of (drop i (deltas column))) ≡ length (blocks_of (deltas column))
-    → i + 1 < length column → n ≡ min (length column - 1 - i) 128 → size ≡ length (block_bytes (deltas (take (i + n + 1 - i) (drop i column))))
-    → total + size + length (blocks_of (drop (i + n) (deltas column))) ≡ length (blocks_of (deltas column))
-total-more column i n total begun more e measured =
-    let block : List ℕ = block_bytes (deltas (take (i + n + 1 - i) (drop i column))) in
-    omega (arith, begun, measured, ap length (next-window column i n more e), length-append block (blocks_of (drop (i + n) (deltas column))))
+pub total-more : (rest : List ℤ) (n total all : ℕ) {size : ℕ} → total + length (blocks_of (deltas rest)) ≡ all
+    → 1 < length rest → n ≡ min (length rest - 1) 128 → size ≡ length (block_bytes (deltas (take (n + 1) rest)))
+    → total + size + length (blocks_of (deltas (drop n rest))) ≡ all
+total-more rest n total all begun more e measured =
+    omega (arith, begun, measured, ap length (next-window rest n more e), length-append (block_bytes (deltas (take (n + 1) rest))) (blocks_of (deltas (drop n rest))))
 
 -- at most 11 bytes beside eight for a delta
 block-most : (ds : List ℤ) → block_len ds ≤ 11 + 8 * length ds

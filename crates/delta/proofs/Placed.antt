@@ -35,16 +35,16 @@ module _ (window : List ℤ) where
 
 -- ---- all blocks
 
-module _ {whole l out : List ℕ} {from : ℕ} (column : List ℤ) (i n at : ℕ) (more : i + 1 < length column) (e : n ≡ min (length column - 1 - i) 128)
-    (s : Storing whole l from (blocks_of (drop i (deltas column))) out at)
+module _ {whole l out : List ℕ} {from : ℕ} (rest : List ℤ) (n at : ℕ) (more : 1 < length rest) (e : n ≡ min (length rest - 1) 128)
+    (s : Storing whole l from (blocks_of (deltas rest)) out at)
   where
     abbrev block : List ℕ
-    block = block_bytes (deltas (take (i + n + 1 - i) (drop i column)))
+    block = block_bytes (deltas (take (n + 1) rest))
 
     pub block_room : from + length whole ≤ length l → at + length block ≤ length out
     block_room fits =
-        omega (arith, storing-room s fits, ap length (next-window column i n more e), length-append block (blocks_of (drop (i + n) (deltas column))))
+        omega (arith, storing-room s fits, ap length (next-window rest n more e), length-append block (blocks_of (deltas (drop n rest))))
 
     pub blocks-placed : {end : ℕ} {next : List ℕ} → end ≡ at + length block → next ≡ sets out at block
-        → Storing whole l from (blocks_of (drop (i + n) (deltas column))) next end
-    blocks-placed ee en = rw (ee, en) (storing-part s block (blocks_of (drop (i + n) (deltas column))) (next-window column i n more e))
+        → Storing whole l from (blocks_of (deltas (drop n rest))) next end
+    blocks-placed ee en = rw (ee, en) (storing-part s block (blocks_of (deltas (drop n rest))) (next-window rest n more e))

@@ -2,19 +2,22 @@
 -- is the value that was stored last. A loop that stores sums keeps this: when the deltas left are summed behind where it stands, all of them are summed behind where
 -- it began (`Summing`).
 use mathlib.Core.Path.{◌≡◌, refl, sym, ap, ap₂, ◌∙◌}
-use mathlib.Core.List.{List, [], ◌∷◌, ◌++◌}
-use Prim.Native.Nat.{ℕ, suc, ◌+◌, ◌≤◌, ◌<◌}
-use native.Mathlib.Nat.{add-zero, add_assoc}
+use mathlib.Core.List.{List, [], ◌∷◌, ◌++◌, append_assoc}
+use Prim.Native.Nat.{ℕ, suc, ◌+◌, ◌-◌, ◌≤◌, ◌<◌}
+use native.Mathlib.Nat.{add-zero}
 use native.Mathlib.Numerals.{add-one}
 use native.Mathlib.Omega.{arith}
 use lib.IntN.{ℤ, pos}
-use lib.ListN.{length, get_or, set, drop, length-set, drop_of_length-le}
-use lib.Seq.{sets, length-sets, drop-cons, get_or-set_same}
+use lib.ListN.{length, get_or, set, take, drop, length-set, length-drop}
+use lib.Seq.{sets, sets-eq, length-sets, drop-drop, get_or-set_same}
+use borrow.Rule.Slice.PartMut.{put_mid}
+use Rattle.bitpack.proofs.Parts.{part-rest, part-back}
+use Rattle.format.specs.Answers.{stored}
 use Rattle.format.specs.Keys.{wrapping_add}
 use Rattle.format.specs.Delta.{prefix_sums}
 use Rattle.format.proofs.Codecs.Counts.{length-prefix_sums}
-use Rattle.format.proofs.Numbers.Stores.{sets-append}
-use Rattle.delta.specs.Summed.{from_least, summed}
+use Rattle.format.proofs.Numbers.Stores.{sets-append, sets-stored}
+use Rattle.delta.specs.Summed.{summed}
 
 -- ---- sums in two parts
 
@@ -54,6 +57,19 @@ length-summed : (column ds : List ℤ) (last : ℕ) → length (summed column la
 unfolding summed
 length-summed column ds last = length-sets column (last + 1) (prefix_sums (get_or column last (pos 0)) ds)
 
+-- ---- a part of a column, filled
+
+pub part-filled : (l vs : List ℤ) (at : ℕ) {back : List ℤ} → at + length vs ≤ length l → back ≡ sets (take (length l - at) (drop at l)) 0 vs
+    → put_mid at (length l - at) l back ≡ sets l at vs
+unfolding stored
+part-filled l vs at {back} h e =
+    let room : length vs ≤ length (drop at l) = omega (arith, h, length-drop at l) in
+    part-back at l back (omega arith)
+    ∙ ap (λ (r : List ℤ). take at l ++ r) (e ∙ ap (λ (p : List ℤ). sets p 0 vs) (part-rest at l) ∙ sets-stored vs (drop at l) room)
+    ∙ sym (append_assoc (take at l) vs (drop (length vs) (drop at l)))
+    ∙ ap (λ (r : List ℤ). (take at l ++ vs) ++ r) (drop-drop (length vs) at l)
+    ∙ sym (sets-eq vs l at h)
+
 -- ---- a loop that stores sums
 
 -- The deltas `all` are to be summed behind the value at `from` of l. `column` is what is there by now, `last` the place of the value that was stored last, and the
@@ -80,20 +96,3 @@ module _ {all l : List ℤ} {from : ℕ} where
     pub summing-done : rest ≡ [] → column ≡ summed l from all
     unfolding summed prefix_sums
     summing-done e = ap (summed column last) (sym e) ∙ s.same
-
--- a value more, by its offset from the least delta
-module _ {all l column : List ℤ} {from : ℕ} (low : ℤ) (offsets : List ℕ) (last i : ℕ) where
-  pub summing-one : {v : ℤ} → Summing all l from (from_least low (drop i offsets)) column (last + i) → i < length offsets → last + (i + 1) < length column
-      → v ≡ wrapping_add (get_or column (last + i) (pos 0)) (wrapping_add low (pos (get_or offsets i 0)))
-      → Summing all l from (from_least low (drop (i + 1) offsets)) (set column (last + (i + 1)) v) (last + (i + 1))
-  unfolding summed prefix_sums from_least
-  summing-one s h room e =
-      let d : ℤ = wrapping_add low (pos (get_or offsets i 0)) in
-      let next : drop i offsets ≡ get_or offsets i 0 ∷ drop (i + 1) offsets = drop-cons offsets i 0 h ∙ rw (add-one i) in
-      let room' : last + i + 1 < length column = omega arith in
-      rw (e, ← add_assoc last i 1) (summing-part s (d ∷ []) (from_least low (drop (i + 1) offsets)) (ap (from_least low) next) refl room')
-
--- past the last offset there is none
-pub none_left : (low : ℤ) (offsets : List ℕ) (i : ℕ) → length offsets ≤ i → from_least low (drop i offsets) ≡ []
-unfolding from_least
-none_left low offsets i h = rw (drop_of_length-le offsets h)

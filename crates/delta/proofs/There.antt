@@ -10,7 +10,8 @@ use lib.Dec.{leb, ltb}
 use lib.ListN.{length, get_or}
 use borrow.Author.Tests.{leb-true, ltb-true}
 use Rattle.format.specs.Outcome.{refused, ok, check}
-use Rattle.format.specs.Varint.{UvarintRead, read_uvarint, first_padded}
+use Rattle.format.specs.Varint.{read_uvarint, first_padded}
+use Rattle.format.specs.declared.Uvarint.{Uvarint}
 use Rattle.format.specs.Packing.{packed_len, width_at, packed_end}
 use Rattle.format.specs.Delta.{block_count, validate_blocks}
 use Rattle.format.proofs.Codecs.Outcome.{both-passed, check-passed}
@@ -61,7 +62,7 @@ pub record NextThere (s : List ℕ) (size left n start : ℕ) : Type 0 where
   pub rest : BlocksThere s size (start + 1 + packed_len n (get_or s start 0)) (left - n)
 
 module _ (s : List ℕ) (size at left : ℕ) (some : 1 ≤ size) (more : 1 ≤ left) (b : BlocksThere s size at left) where
-  pub next-there : {low : UvarintRead} → read_uvarint s at ≡ ok low → NextThere s size left (min left size) low.next
+  pub next-there : {low : Uvarint} → read_uvarint s at ≡ ok low → NextThere s size left (min left size) low.next
   unfolding validate_blocks
   next-there {low} r =
       let n : ℕ = min left size in

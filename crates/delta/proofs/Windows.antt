@@ -47,5 +47,13 @@ window (v ∷ vs) zero n = front v vs n
 window (v ∷ []) (suc i) n = rw (drop-nil {A = ℤ} i, take-nil {A = ℤ} n)
 window (v ∷ w ∷ vs) (suc i) n = window (w ∷ vs) i n
 
-pub window-deltas : (column : List ℤ) (i n : ℕ) {end : ℕ} → end ≡ i + n + 1 → deltas (take (end - i) (drop i column)) ≡ take n (drop i (deltas column))
-window-deltas column i n {end} e = let k : end - i ≡ suc n = omega arith in rw k (window column i n)
+-- the first n of a walk's deltas, and those after them
+pub first-deltas : (rest : List ℤ) (n : ℕ) → deltas (take (n + 1) rest) ≡ take n (deltas rest)
+first-deltas rest n = rw (add-one n) (window rest 0 n)
+
+pub later-deltas : (rest : List ℤ) (n : ℕ) → deltas (drop n rest) ≡ drop n (deltas rest)
+unfolding deltas deltas_from
+later-deltas rest zero = refl
+later-deltas [] (suc n) = refl
+later-deltas (v ∷ []) (suc n) = rw (drop-nil {A = ℤ} n) refl
+later-deltas (v ∷ w ∷ vs) (suc n) = later-deltas (w ∷ vs) n

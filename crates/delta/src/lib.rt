@@ -2,55 +2,52 @@
 // `DeltaBinaryPackedCodec`). Deltas are taken, and summed again, modulo 2^64.
 #![tactic(auto)]
 
-ghost use Rattle.std.specs.Prelude.{◌≡◌, length};
-ghost use Rattle.format.specs.Header.{named};
-ghost use Rattle.format.specs.Read.{read_answer, read_column};
-ghost use Rattle.format.specs.Write.{write_answer, write_output};
+ghost use Rattle.std.specs.Prelude.{◌≡◌, length, refl};
+ghost use Rattle.format.specs.Delta.{delta_body};
+ghost use Rattle.format.specs.declared.encoding.Encoding.TheVariants as Encodings;
 
-use crate::filling::fill;
-use crate::settling::settle_body;
-use crate::writing::{body_len, store};
-use codec::body::settle;
-use codec::header::{header_len, put_header, read_header, refusal_of_header};
-use format::limits::MAX_CHUNK_ELEMENTS;
-use format::refusal::{BUFFER_TOO_SHORT, COLUMN_ABOVE_LIMIT};
-use format::{Answer, Encoding, HeaderAnswer};
+use codec::chunk::{Codec, Encoder, lacking_for};
+use format::{Encoding, Extent, Header, Refusal};
 
 pub(crate) mod filling;
+pub(crate) mod running;
 pub(crate) mod settling;
 pub(crate) mod writing;
 
-// Writes the column's chunk to the front of `out`: it is measured first, and stored where it has room.
-pub fn encode(column: &[i64], out: &mut [u8]) -> Answer
-    ensures value { result ≡ write_answer 7 column.now 0 (length out.old) }
-    ensures out_after { out.new ≡ write_output 7 column.now 0 out.old }
-{
-    if column.len() > MAX_CHUNK_ELEMENTS {
-        return Answer::Refused(COLUMN_ABOVE_LIMIT, 0);
+pub struct DeltaBinaryPacked;
+
+impl Codec for DeltaBinaryPacked {
+    ghost ENCODING = { Encodings.DeltaBinaryPacked };
+
+    const ENCODING: Encoding = Encoding::DeltaBinaryPacked;
+
+    fn settle_body(chunk: &[u8], strict: bool, header: Header) -> Result<Extent, Refusal> {
+        settling::settle_body(chunk, header)
     }
-    let needed = header_len(column.len()) + body_len(column);
-    if out.len() < needed {
-        return Answer::Refused(BUFFER_TOO_SHORT, needed);
+
+    fn fill(chunk: &[u8], header: Header, column: &mut [i64]) {
+        filling::fill(chunk, header, column)
     }
-    let at = put_header(Encoding::DeltaBinaryPacked, column.len(), out);
-    store(column, out, at);
-    Answer::Accepted(needed)
 }
 
-// Reads a chunk to the front of `column`: everything is asked before anything is stored.
-pub fn decode(chunk: &[u8], strict: bool, column: &mut [i64]) -> Answer
-    ensures value { result ≡ read_answer strict (named 7) chunk.now (length column.old) }
-    ensures column_after { column.new ≡ read_column strict (named 7) chunk.now column.old }
-{
-    let header = read_header(chunk, 7);
-    let HeaderAnswer::Found(count, start, padded) = header else {
-        return refusal_of_header(header);
-    };
-    let body = settle_body(chunk, start, count, padded);
-    let answer = settle(chunk, strict, count, column.len(), body);
-    let Answer::Accepted(n) = answer else {
-        return answer;
-    };
-    fill(chunk, start, n, column);
-    answer
+impl Encoder for DeltaBinaryPacked {
+    // The body's length.
+    type Measured = usize;
+
+    ghost suits = { λ column body. body ≡ length (delta_body column) };
+
+    ghost scratchless = { λ k. refl };
+
+    fn measure(column: &[i64]) -> usize {
+        writing::body_len(column)
+    }
+
+    fn lacking(column: &[i64], body: usize, space: usize) -> Option<usize> {
+        lacking_for(column.len(), body, space)
+    }
+
+    fn store(column: &[i64], body: usize, out: &mut [u8], at: usize) -> usize {
+        writing::store(column, out, at);
+        at + body
+    }
 }

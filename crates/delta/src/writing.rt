@@ -9,7 +9,7 @@ ghost use Rattle.format.specs.Delta.{block_bytes, delta_body};
 ghost use Rattle.delta.specs.Written.{blocks_of};
 
 use format::limits::DELTA_BLOCK_SIZE;
-use places::block::{at_most, packed_bytes};
+use places::block::{BLOCK, packed_bytes};
 use places::{put_packed, put_uvarint, put_varint};
 
 // The least and the greatest of some deltas.
@@ -17,6 +17,15 @@ use places::{put_packed, put_uvarint, put_varint};
 struct Bounds {
     low: i64,
     high: i64,
+}
+
+impl Bounds {
+    // The width that holds every offset from the least delta: that of the greatest's.
+    fn width(self) -> u32
+        ensures { result ≡ width (gap self.low self.high) }
+    {
+        number::required_width(number::gap(self.low, self.high))
+    }
 }
 
 // The delta at a place of a window.
@@ -35,32 +44,21 @@ fn bounds_of(window: &[i64]) -> Bounds
     let first = delta_at(window, 0);
     let mut low = first;
     let mut high = first;
-    let mut i: usize = 1;
-    while i + 1 < window.len() {
+    for i in 1..window.len() - 1 {
         let delta = delta_at(window, i);
         low = number::lesser(low, delta);
         high = number::greater(high, delta);
-        i += 1;
     }
     Bounds { low, high }
 }
 
-// The width that holds every offset from the least delta: that of the greatest's.
-fn span_width(low: i64, high: i64) -> u32
-    ensures { result ≡ width (gap low high) }
-{
-    number::required_width(number::gap(low, high))
-}
-
 // The offsets of a window's deltas from the least of them, at the front of `block`.
 fn offsets(window: &[i64], low: i64, block: &mut [u64])
-    requires { length window.now ≤ length block.old + 1 }
+    requires { (1 ≤ length window.now) × (length window.now ≤ length block.old + 1) }
     ensures { block.new ≡ sets block.old 0 (map (gap low) (deltas window.now)) }
 {
-    let mut i: usize = 0;
-    while i + 1 < window.len() {
+    for i in 0..window.len() - 1 {
         block[i] = number::gap(low, delta_at(window, i));
-        i += 1;
     }
 }
 
@@ -70,9 +68,7 @@ fn block_len(window: &[i64]) -> usize
     ensures { result ≡ length (block_bytes (deltas window.now)) }
 {
     let bounds = bounds_of(window);
-    let low = bounds.low;
-    let high = bounds.high;
-    varint::varint_len(low) + 1 + packed_bytes(window.len() - 1, span_width(low, high))
+    varint::varint_len(bounds.low) + 1 + packed_bytes(window.len() - 1, bounds.width())
 }
 
 // How many bytes all blocks of a column have.
@@ -81,12 +77,11 @@ fn blocks_len(column: &[i64]) -> usize
     ensures { result ≡ length (blocks_of (deltas column.now)) }
 {
     let mut total: usize = 0;
-    let mut i: usize = 0;
-    while i + 1 < column.len() {
-        let n = at_most(column.len() - 1 - i, DELTA_BLOCK_SIZE);
-        let end = i + n + 1;
-        total += block_len(&column[i..end]);
-        i += n;
+    let mut rest = column;
+    while rest.len() > 1 {
+        let n = (rest.len() - 1).min(DELTA_BLOCK_SIZE);
+        total += block_len(&rest[..n + 1]);
+        rest = &rest[n..];
     }
     total
 }
@@ -111,12 +106,10 @@ fn store_block(window: &[i64], out: &mut [u8], at: usize) -> usize
     ensures out_after { out.new ≡ sets out.old at (block_bytes (deltas window.now)) }
 {
     let bounds = bounds_of(window);
-    let low = bounds.low;
-    let high = bounds.high;
-    let width = span_width(low, high);
-    let mut block = [0u64; 128];
-    offsets(window, low, &mut block);
-    let next = put_varint(low, out, at);
+    let width = bounds.width();
+    let mut block = [0u64; BLOCK];
+    offsets(window, bounds.low, &mut block);
+    let next = put_varint(bounds.low, out, at);
     out[next] = width as u8;
     let n = window.len() - 1;
     put_packed(&block[..n], width, out, next + 1)
@@ -128,12 +121,11 @@ fn store_blocks(column: &[i64], out: &mut [u8], start: usize)
     ensures { out.new ≡ sets out.old start (blocks_of (deltas column.now)) }
 {
     let mut at = start;
-    let mut i: usize = 0;
-    while i + 1 < column.len() {
-        let n = at_most(column.len() - 1 - i, DELTA_BLOCK_SIZE);
-        let end = i + n + 1;
-        at = store_block(&column[i..end], out, at);
-        i += n;
+    let mut rest = column;
+    while rest.len() > 1 {
+        let n = (rest.len() - 1).min(DELTA_BLOCK_SIZE);
+        at = store_block(&rest[..n + 1], out, at);
+        rest = &rest[n..];
     }
 }
 

@@ -18,10 +18,8 @@ use Rattle.format.specs.Distinct.{distinct, Rising, too_many_distinct, scratch_n
 use Rattle.format.specs.Dictionary.{dictionary_body, dictionary_body_with}
 use Rattle.format.specs.Chunk.{body_of, chunk_of}
 use Rattle.format.specs.Write.{for_dictionary, write_checks, write_outcome, write_answer, write_output}
-use Rattle.format.specs.declared.Answer.{Answer}
-use Rattle.format.specs.declared.Answer.TheVariants.{Accepted, Refused}
-use Rattle.format.specs.declared.Encoding.{Encoding}
-use Rattle.format.specs.declared.Encoding.TheVariants.{Dictionary}
+use Rattle.format.specs.declared.encoding.Encoding.{Encoding}
+use Rattle.format.specs.declared.encoding.Encoding.TheVariants.{Dictionary}
 use Rattle.format.proofs.Numbers.Distinct.{distinct-rising}
 use Rattle.codec.proofs.Writing.{length-chunk}
 use Rattle.distinct.specs.Collect.{count_outcome, collect_outcome}
@@ -78,10 +76,10 @@ module _ (column : List ℤ) (room : ℕ) where
       go true true true = refl
 
   module _ (output : List ℕ) where
-    abbrev pub Written : Answer → List ℕ → Type 0
+    abbrev pub Written : Outcome ℕ → List ℕ → Type 0
     Written answer out = (answer ≡ write_answer 6 column room (length output)) × (out ≡ write_output 6 column room output)
 
-    pub write-refused : {number offset : ℕ} → collect_outcome column room ≡ refused number offset → Written (Refused number offset) output
+    pub write-refused : {number offset : ℕ} → collect_outcome column room ≡ refused number offset → Written (refused number offset) output
     unfolding write_answer write_output
     write-refused e = rw (write-asked (length output), e) (refl, refl)
 
@@ -89,10 +87,10 @@ module _ (column : List ℤ) (room : ℕ) where
       same : needed ≡ length (chunk_of Dictionary column)
       same = measured ∙ sym (length-chunk Dictionary column)
 
-      pub write-short : length output < needed → Written (Refused 20 needed) output
+      pub write-short : length output < needed → Written (refused 20 needed) output
       unfolding write_answer write_output
-      write-short h = rw (write-asked (length output), e, lt-leb (length (chunk_of Dictionary column)) (length output) (omega (arith, same))) (ap (Refused 20) same, refl)
+      write-short h = rw (write-asked (length output), e, lt-leb (length (chunk_of Dictionary column)) (length output) (omega (arith, same))) (ap (refused 20) same, refl)
 
-      pub write_done : needed ≤ length output → {out : List ℕ} → out ≡ stored (chunk_of Dictionary column) output → Written (Accepted needed) out
+      pub write_done : needed ≤ length output → {out : List ℕ} → out ≡ stored (chunk_of Dictionary column) output → Written (ok needed) out
       unfolding write_answer write_output
-      write_done h done = rw (write-asked (length output), e, le-leb (length (chunk_of Dictionary column)) (length output) (omega (arith, same))) (ap Accepted same, done)
+      write_done h done = rw (write-asked (length output), e, le-leb (length (chunk_of Dictionary column)) (length output) (omega (arith, same))) (ap ok same, done)

@@ -9,26 +9,19 @@ use native.Mathlib.Numerals.{add-one}
 use native.Mathlib.Omega.{arith}
 use lib.IntN.{ℤ, pos}
 use lib.Dec.{ltb}
-use lib.ListN.{length, get_or, set, take, drop, length-append, drop_of_length-le, get_or-append}
-use lib.Seq.{drop-cons, drop-drop, drop-set-lt, sets}
+use lib.ListN.{length, get_or, take, drop, length-append, drop_of_length-le, get_or-append}
+use lib.Seq.{drop-cons}
 use borrow.Author.Tests.{lt-ltb, le-ltb, ltb-true}
 use Rattle.format.specs.Dictionary.{all_below}
 use Rattle.format.proofs.Numbers.All.{Below, all_none, all_more}
-use Rattle.format.proofs.Numbers.Stores.{Storing, storing-one, storing-done}
 use Rattle.dictionary.specs.Reading.{picked, picked_all}
 
 -- ---- all below
 
 module _ (entries : ℕ) (codes : List ℕ) (i : ℕ) where
-  split : i < length codes → all_below entries (drop i codes) ≡ (ltb (get_or codes i 0) entries && all_below entries (drop (i + 1) codes))
+  pub below_next : i < length codes → all_below entries (drop i codes) ≡ (ltb (get_or codes i 0) entries && all_below entries (drop (i + 1) codes))
   unfolding all_below
-  split h = rw (drop-cons codes i 0 h, add-one i)
-
-  pub below-stop : i < length codes → entries ≤ get_or codes i 0 → all_below entries (drop i codes) ≡ false
-  below-stop h over = split h ∙ ap (λ (t : Bool). t && all_below entries (drop (i + 1) codes)) (le-ltb (get_or codes i 0) entries over)
-
-  pub below_step : i < length codes → get_or codes i 0 < entries → all_below entries (drop (i + 1) codes) ≡ all_below entries (drop i codes)
-  below_step h under = sym (split h ∙ ap (λ (t : Bool). t && all_below entries (drop (i + 1) codes)) (lt-ltb (get_or codes i 0) entries under))
+  below_next h = rw (drop-cons codes i 0 h, add-one i)
 
   pub below_end : length codes ≤ i → all_below entries (drop i codes) ≡ true
   unfolding all_below
@@ -70,21 +63,6 @@ unfolding picked_all
 length-picked done table [] olds h = refl
 length-picked done table (c ∷ cs) [] h = absurd (omega arith)
 length-picked done table (c ∷ cs) (o ∷ os) h = ap suc (length-picked done table cs os (omega arith))
-
--- one part of the codes after the other
-pub picked-append : (done : ℕ) (table : List ℤ) (xs ys : List ℕ) (olds : List ℤ) → length xs ≤ length olds
-    → picked_all done table (xs ++ ys) olds ≡ picked_all done table xs olds ++ picked_all done table ys (drop (length xs) olds)
-unfolding picked_all
-picked-append done table [] ys olds h = refl
-picked-append done table (x ∷ xs) ys [] h = absurd (omega arith)
-picked-append done table (x ∷ xs) ys (o ∷ os) h = ap (λ (r : List ℤ). picked done table x o ∷ r) (picked-append done table xs ys os (omega arith))
-
--- one code more
-pub picked-step : (done : ℕ) (table : List ℤ) (codes : List ℕ) (olds : List ℤ) (i j : ℕ) → i < length codes → j < length olds
-    → picked_all done table (drop i codes) (drop j olds)
-    ≡ picked done table (get_or codes i 0) (get_or olds j (pos 0)) ∷ picked_all done table (drop (i + 1) codes) (drop (j + 1) olds)
-unfolding picked_all
-picked-step done table codes olds i j h k = rw (drop-cons codes i 0 h, drop-cons olds j (pos 0) k, add-one i, add-one j)
 
 -- a code before the table's entries, among them, and after them
 module _ (done : ℕ) (table : List ℤ) (code : ℕ) (old : ℤ) where
@@ -158,38 +136,3 @@ picked_all_lem table later (c ∷ cs) (o ∷ os) h b =
     ap₂ (λ (v : ℤ) (vs : List ℤ). v ∷ vs)
     (picked-in 0 table c o zero-le (omega arith) ∙ ap (λ (k : ℕ). get_or table k (pos 0)) (sub-zero c) ∙ sym (get_or-append table later (pos 0) c low))
     (picked_all_lem table later cs os (omega arith) one.1)
-
--- ---- storing them
-
--- what is stored by now, and what was not reached is as it was
-pub record Picking (done : ℕ) (table : List ℤ) (codes : List ℕ) (l : List ℤ) (from : ℕ) (column : List ℤ) (i : ℕ) : Type 0 where
-  pub storing : Storing (picked_all done table codes (drop from l)) l from (picked_all done table (drop i codes) (drop (from + i) l)) column (from + i)
-  pub untouched : drop (from + i) column ≡ drop (from + i) l
-
-same_at : (a b : List ℤ) (k : ℕ) → drop k a ≡ drop k b → length a ≡ length b → get_or a k (pos 0) ≡ get_or b k (pos 0)
-same_at [] [] k e h = refl
-same_at [] (y ∷ b) k e h = absurd (omega arith)
-same_at (x ∷ a) [] k e h = absurd (omega arith)
-same_at (x ∷ a) (y ∷ b) zero e h = ap (λ (r : List ℤ). get_or r 0 (pos 0)) e
-same_at (x ∷ a) (y ∷ b) (suc k) e h = same_at a b k e (omega arith)
-
-module _ {done : ℕ} {table : List ℤ} {codes : List ℕ} {l : List ℤ} {from : ℕ} {column : List ℤ} {i : ℕ} (p : Picking done table codes l from column i) where
-  pub picking-one : i < length codes → from + i < length l → {v : ℤ} → v ≡ picked done table (get_or codes i 0) (get_or column (from + i) (pos 0))
-      → Picking done table codes l from (set column (from + i) v) (i + 1)
-  picking-one h k {v} e =
-      let next : from + i + 1 ≡ from + (i + 1) = omega arith in
-      let rest = picked_all done table (drop (i + 1) codes) (drop (from + i + 1) l) in
-      let old = same_at column l (from + i) p.untouched p.storing.long in
-      let value : picked done table (get_or codes i 0) (get_or l (from + i) (pos 0)) ≡ v = sym (e ∙ ap (picked done table (get_or codes i 0)) old) in
-      let split = picked-step done table codes l i (from + i) h k ∙ ap (λ (o : ℤ). o ∷ rest) value in
-      record {
-        storing = rw next at (storing-one p.storing v rest split);
-        untouched = rw next at (drop-set-lt (from + i + 1) column (from + i) v (omega arith) ∙ tail);
-      }
-    where
-      tail : drop (from + i + 1) column ≡ drop (from + i + 1) l
-      tail = sym (drop-drop 1 (from + i) column) ∙ ap (drop 1) p.untouched ∙ drop-drop 1 (from + i) l
-
-  pub picking-done : length codes ≤ i → column ≡ sets l from (picked_all done table codes (drop from l))
-  unfolding picked_all
-  picking-done h = storing-done p.storing (rw (drop_of_length-le codes {i = i} h) refl)

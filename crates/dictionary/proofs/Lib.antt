@@ -3,7 +3,5 @@ pub mod Body
 pub mod Chunk
 pub mod ReadEntries
 pub mod Codes
-pub mod Walks
 pub mod Questions
 pub mod Tables
-pub mod ReadChunk

@@ -18,17 +18,17 @@ use Rattle.dictionary.specs.Reading.{entry_at, entries_at}
 -- ---- places
 
 module _ (s : List ℕ) (at : ℕ) {n i : ℕ} where
-  pub after-step : i < n → after_uvarints s (uvarint_at s at).next (n - (i + 1)) ≡ after_uvarints s at (n - i)
+  pub after_step : i < n → after_uvarints s (uvarint_at s at).next (n - (i + 1)) ≡ after_uvarints s at (n - i)
   unfolding after_uvarints
-  after-step h = let k : n - i ≡ suc (n - (i + 1)) = omega arith in rw k
+  after_step h = let k : n - i ≡ suc (n - (i + 1)) = omega arith in rw k
 
-  pub after-end : n ≤ i → after_uvarints s at (n - i) ≡ at
+  pub after_end : n ≤ i → after_uvarints s at (n - i) ≡ at
   unfolding after_uvarints
-  after-end h = let k : n - i ≡ 0 = omega arith in rw k
+  after_end h = let k : n - i ≡ 0 = omega arith in rw k
 
 -- bits added to a key
-pub wrapping-bits : (last : ℤ) (n : ℕ) → n < 2 ^ 64 → wrapping_add last (as_signed n) ≡ wrapping_add last (pos n)
-wrapping-bits last n h = wrapping_add-residue last (as_signed n) (pos n) (residue-as_signed n h ∙ sym (mod-eq_of_lt h))
+pub wrapping_bits : (last : ℤ) (n : ℕ) → n < 2 ^ 64 → wrapping_add last (as_signed n) ≡ wrapping_add last (pos n)
+wrapping_bits last n h = wrapping_add-residue last (as_signed n) (pos n) (residue-as_signed n h ∙ sym (mod-eq_of_lt h))
 
 -- ---- entries
 

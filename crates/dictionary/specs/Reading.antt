@@ -1,20 +1,20 @@
 -- What the parts of reading a Dictionary body say. No public contract cites this file.
-use Rattle.std.specs.Prelude.{◌≡◌, ℕ, suc, ◌+◌, ◌-◌, ◌≤◌, true, cond, List, [], ◌∷◌, ℤ, pos, ltb, eqb, length, get_or}
+use Rattle.std.specs.Prelude.{◌≡◌, ℕ, suc, ◌+◌, ◌-◌, ◌≤◌, true, cond, List, [], ◌∷◌, ℤ, pos, ltb, eqb, length, get_or, Option, refl}
 use Rattle.format.specs.Outcome.{Outcome, ok, check, ◌>>=◌}
 use Rattle.format.specs.Keys.{wrapping_add, unzigzag}
-use Rattle.format.specs.Varint.{Extent, uvarint_at, after_uvarints}
-use Rattle.format.specs.Packing.{width_at, packed_end, packed_values}
+use Rattle.format.specs.declared.Extent.{Extent}
+use Rattle.format.specs.Varint.{uvarint_at, after_uvarints}
+use Rattle.format.specs.Packing.{packed_values}
+use Rattle.format.specs.Parts.{packed_extent}
 use Rattle.format.specs.Dictionary.{all_below}
 use Rattle.places.specs.Packed.{Inside}
-use Rattle.format.specs.declared.Padded.{Padded}
 
--- the questions after the entries: 10, 12, 13, 18
-unfoldable pub settled_codes : List ℕ → ℕ → ℕ → ℕ → Padded → Outcome Extent
+-- the questions after the entries: 10, 12, 13, 18; asked of more values than a chunk can have, it is 21, as `packed_extent` is
+unfoldable pub settled_codes : List ℕ → ℕ → ℕ → ℕ → Option ℕ → Outcome Extent
 settled_codes s place count entries padded = do
-  w ← width_at s place
-  end ← packed_end s (place + 1) w count
-  _ ← check (all_below entries (packed_values s (place + 1) w count)) 18 place
-  ok (record { end = end; padded = padded })
+  body ← packed_extent s place count padded
+  _ ← check (all_below entries (packed_values s (place + 1) (get_or s place 0) count)) 18 place
+  ok body
 
 -- entry i, by the entry before it and its varint's value
 unfoldable pub entry_at : ℕ → ℤ → ℕ → ℤ
@@ -34,6 +34,10 @@ unfoldable pub picked_all : ℕ → List ℤ → List ℕ → List ℤ → List 
 picked_all done table [] olds = []
 picked_all done table (c ∷ cs) [] = []
 picked_all done table (c ∷ cs) (old ∷ olds) = picked done table c old ∷ picked_all done table cs olds
+
+pub picked_all-none : (done : ℕ) (table olds : List ℤ) → picked_all done table [] olds ≡ []
+unfolding picked_all
+picked_all-none done table olds = refl
 
 -- ---- what filling is told
 

@@ -7,10 +7,10 @@ ghost use Rattle.format.specs.Dictionary.{entry_bytes, code_of, dictionary_body_
 ghost use Rattle.format.specs.Distinct.{Rising};
 ghost use Rattle.entries.specs.Measured.{body_len};
 
-use crate::guess::rank;
+use crate::coded::Codes;
 use entries::code_width;
-use places::block::block_len;
-use places::{put_packed, put_uvarint, put_varint};
+use places::packed::pack_by;
+use places::{put_uvarint, put_varint};
 
 // Stores the entries from `start` on, and returns the place after them.
 fn put_entries(entries: &[i64], out: &mut [u8], start: usize) -> usize
@@ -31,52 +31,26 @@ fn put_entries(entries: &[i64], out: &mut [u8], start: usize) -> usize
     at
 }
 
-// The codes of a part of the column, at the front of `block`.
-fn put_codes(part: &[i64], entries: &[i64], guesses: &mut [u16], block: &mut [u64])
-    requires { (length part.now ≤ length block.old) × (0 < length guesses.old) × Rising entries.now }
-    ensures { block.new ≡ sets block.old 0 (map (code_of entries.now) part.now) }
-{
-    for j in 0..part.len() {
-        block[j] = rank(entries, part[j], guesses) as u64;
-    }
-}
-
-// Stores the column's codes packed from `start` on.
-fn pack_codes(
-    column: &[i64],
-    entries: &[i64],
-    width: u32,
-    guesses: &mut [u16],
-    out: &mut [u8],
-    start: usize,
-)
-    requires { (width ≤ 64) × (start + packed_len (length column.now) width ≤ length out.old) × (0 < length guesses.old) × Rising entries.now }
-    ensures { out.new ≡ sets out.old start (packed width (map (code_of entries.now) column.now)) }
-{
-    let mut block = [0u64; 128];
-    let mut at = start;
-    let mut i = 0;
-    while i < column.len() {
-        let n = block_len(column.len() - i);
-        let end = i + n;
-        put_codes(&column[i..end], entries, guesses, &mut block);
-        at = put_packed(&block[..n], width, out, at);
-        i = end;
-    }
-}
-
-// The same with guesses of its own. A short column has few of them, since a local table is cleared first.
+// Stores the column's codes packed from `start` on. A short column has few guesses, since a local table is cleared first. Inlined
+// among the other encodings it would be slower by a tenth.
+#[inline(never)]
 fn store_codes(column: &[i64], entries: &[i64], width: u32, out: &mut [u8], start: usize)
     requires { (width ≤ 64) × (start + packed_len (length column.now) width ≤ length out.old) × Rising entries.now }
     ensures { out.new ≡ sets out.old start (packed width (map (code_of entries.now) column.now)) }
 {
     if column.len() <= 1024 {
-        let mut few = [0u16; 128];
-        pack_codes(column, entries, width, &mut few, out, start);
+        let mut codes = Codes {
+            entries,
+            guesses: [0u16; 128],
+        };
+        pack_by(column, &mut codes, width, out, start);
         return;
     }
-    let mut guesses = [0u16; 32768];
-    pack_codes(column, entries, width, &mut guesses, out, start);
+    let mut codes = Codes {
+        entries,
+        guesses: [0u16; 32768],
+    };
+    pack_by(column, &mut codes, width, out, start);
 }
 
 // Stores the body from `start` on: the total, the entries, the width byte, the codes.

@@ -1,67 +1,27 @@
--- The answer of `collect` and the scratch after it, by which question is the first "no"; and what a caller has from an answer: where it is accepted, the front of the scratch
--- is the distinct values.
-use mathlib.Core.Path.{◌≡◌, refl, sym, ap, ◌∙◌}
+-- What a caller of `collect` has: where its answer is accepted, the front of the scratch is the distinct values.
+use mathlib.Core.Path.{◌≡◌, sym, ap, ◌∙◌}
 use mathlib.Core.Bool.{not}
 use mathlib.Core.List.{List}
-use Prim.Native.Nat.{ℕ, ◌≤◌, ◌<◌}
+use Prim.Native.Nat.{ℕ, ◌≤◌}
 use native.Mathlib.Omega.{arith}
 use lib.IntN.{ℤ}
 use lib.Dec.{leb}
 use lib.ListN.{length, take}
-use borrow.Author.Tests.{le-leb, lt-leb, leb-true, not-true}
-use Rattle.format.specs.Outcome.{Outcome, refused, ok, check}
+use borrow.Author.Tests.{le-leb, leb-true, not-true}
+use Rattle.format.specs.Outcome.{ok, check}
 use Rattle.format.specs.Encodings.{encoding_of, encodings, max_chunk_elements, max_dictionary_cardinality}
-use Rattle.format.specs.Answers.{answer_of, stored}
+use Rattle.format.specs.Answers.{stored}
 use Rattle.format.specs.Distinct.{distinct, too_many_distinct, scratch_needed, scratch_check, collected}
 use Rattle.format.specs.Write.{write_checks, write_scratch}
-use Rattle.format.specs.declared.Answer.{Answer}
-use Rattle.format.specs.declared.Answer.TheVariants.{Accepted, Refused}
 use Rattle.format.proofs.Codecs.Outcome.{both-passed, check-passed}
 use Rattle.format.proofs.Numbers.Distinct.{length-distinct, few-distinct, capped_distinct-all}
 use Rattle.format.proofs.Plan.Checks.{length-stored, take-stored}
-use Rattle.distinct.specs.Collect.{count_outcome, collect_outcome, collect_answer}
+use Rattle.distinct.specs.Collect.{count_outcome, collect_outcome}
 
-module _ (column scratch : List ℤ) where
-  -- the answer, and the scratch after it
-  abbrev pub Answers : Answer → List ℤ → Type 0
-  Answers answer after = (answer ≡ collect_answer column (length scratch)) × (after ≡ write_scratch 6 column scratch)
-
-  pub answers-above : max_chunk_elements < length column → Answers (Refused 21 0) scratch
-  unfolding collect_answer collect_outcome write_scratch write_checks
-  answers-above h = rw (lt-leb (length column) max_chunk_elements h) (refl, refl)
-
-  module _ (few : length column ≤ max_chunk_elements) where
-    pub answers-short : length scratch < scratch_needed column → Answers (Refused 22 0) scratch
-    unfolding collect_answer collect_outcome write_scratch write_checks scratch_check encoding_of encodings
-    answers-short h = rw (le-leb (length column) max_chunk_elements few, lt-leb (scratch_needed column) (length scratch) h) (refl, refl)
-
-    pub scratch-filled : scratch_needed column ≤ length scratch → collected column scratch ≡ write_scratch 6 column scratch
-    unfolding write_scratch write_checks scratch_check encoding_of encodings
-    scratch-filled h = rw (le-leb (length column) max_chunk_elements few, le-leb (scratch_needed column) (length scratch) h)
-
-    pub answers-count : scratch_needed column ≤ length scratch → {answer : Answer} {after : List ℤ} → answer ≡ answer_of (count_outcome column) → after ≡ collected column scratch → Answers answer after
-    unfolding collect_answer collect_outcome scratch_check
-    answers-count h e f =
-        (rw (le-leb (length column) max_chunk_elements few, le-leb (scratch_needed column) (length scratch) h) e, f ∙ scratch-filled h)
-
--- ---- what a caller has
-
-module _ (column : List ℤ) (room : ℕ) where
-  pub outcome-refused : {number offset : ℕ} → collect_answer column room ≡ Refused number offset → collect_outcome column room ≡ refused number offset
-  unfolding collect_answer
-  outcome-refused {number} {offset} e = go (collect_outcome column room) e
-    where
-      go : (o : Outcome ℕ) → answer_of o ≡ Refused number offset → o ≡ refused number offset
-      go (refused n k) h = cc
-      go (ok n) h = let z : ◌≡◌ {A = ℕ} 0 1 = cc in absurd (omega arith)
-
-  pub outcome-accepted : {n : ℕ} → collect_answer column room ≡ Accepted n → collect_outcome column room ≡ ok n
-  unfolding collect_answer
-  outcome-accepted {n} e = go (collect_outcome column room) e
-    where
-      go : (o : Outcome ℕ) → answer_of o ≡ Accepted n → o ≡ ok n
-      go (refused number offset) h = let z : ◌≡◌ {A = ℕ} 0 1 = cc in absurd (omega arith)
-      go (ok k) h = cc
+-- what the scratch has where it is long enough
+scratch-filled : (column scratch : List ℤ) → length column ≤ max_chunk_elements → scratch_needed column ≤ length scratch → collected column scratch ≡ write_scratch 6 column scratch
+unfolding write_scratch write_checks scratch_check encoding_of encodings
+scratch-filled column scratch few h = rw (le-leb (length column) max_chunk_elements few, le-leb (scratch_needed column) (length scratch) h)
 
 -- the scratch of a column with few enough distinct values
 filled : (column scratch : List ℤ) → length (distinct column) ≤ max_dictionary_cardinality → collected column scratch ≡ stored (distinct column) scratch

@@ -13,9 +13,9 @@ use lib.Seq.{take-suc, take_all, length-take-le, drop-append-add, drop-drop, get
 use borrow.Author.Tests.{le-leb, lt-leb, eqb-true, eqb-false}
 use Rattle.format.specs.Encodings.{max_dictionary_cardinality}
 use Rattle.format.specs.Keys.{eq_z}
-use Rattle.format.specs.Answers.{answer_of, stored}
+use Rattle.format.specs.Answers.{stored}
+use Rattle.format.specs.Outcome.{ok, refused}
 use Rattle.format.specs.Distinct.{insert, distinct_from, distinct, Rising, scratch_needed, collected}
-use Rattle.format.specs.declared.Answer.TheVariants.{Accepted, Refused}
 use Rattle.format.proofs.Numbers.Order.{eq_z-true}
 use Rattle.format.proofs.Numbers.Distinct.{insert-grows, length-insert, distinct_from-grows, length-distinct, insert-rising, distinct-rising}
 use Rattle.format.proofs.Numbers.Distinct.{not-too_many_distinct, too_many_distinct-is, capped_distinct-all, capped_distinct-first}
@@ -25,7 +25,7 @@ use Rattle.distinct.specs.Merge.{merged, Mergeable}
 use Rattle.distinct.specs.Search.{slot_of}
 use Rattle.distinct.proofs.Members.{eq_z-self, insert-into, insert-had, insert-more, has-none, has-insert, has_both, has_new, has-still}
 use Rattle.distinct.proofs.Slots.{slot_lt, vacant-other, vacant-before}
-use Rattle.distinct.proofs.Inserting.{same-front}
+use Rattle.distinct.proofs.Inserting.{same_front}
 
 -- ---- distinct values, a value and a part at a time
 
@@ -75,13 +75,13 @@ module _ (n : ℕ) (v : ℤ) (wait : ℕ) (h : wait ≤ n) where
 
 -- all keys: their number is the answer, and the scratch has them
 counted : (column old : List ℤ) {held i : ℕ} {s : List ℤ} → held ≡ length (distinct (take i column)) → held ≤ max_dictionary_cardinality → s ≡ stored (distinct (take i column)) old
-    → length column ≤ i → (Accepted held ≡ answer_of (count_outcome column)) × (s ≡ collected column old)
+    → length column ≤ i → (ok held ≡ count_outcome column) × (s ≡ collected column old)
 unfolding collected count_outcome
 counted column old {held} {i} count few are h =
     let all : take i column ≡ column = take_all i column h in
     let is : held ≡ length (distinct column) = count ∙ ap (λ (l : List ℤ). length (distinct l)) all in
     let most : length (distinct column) ≤ max_dictionary_cardinality = rw (← is) few in (
-      rw (not-too_many_distinct column most) (ap Accepted is),
+      rw (not-too_many_distinct column most) (ap ok is),
       are ∙ ap (λ (l : List ℤ). stored (distinct l) old) all ∙ ap (λ (l : List ℤ). stored l old) (sym (capped_distinct-all column most)),
     )
 
@@ -122,7 +122,7 @@ module _ (column old : List ℤ) where
         ∙ stored-over (distinct (take i column)) (distinct (take (i + 1) column)) old (omega (arith, ap length next, ap length held-are, insert-grows v (take held s))) in
         record { upto = omega arith; count = m ∙ ap length next; long = ap length are ∙ length-stored (distinct (take (i + 1) column)) old fits; are = are }
 
-    pub taking-done : length column ≤ i → (Accepted held ≡ answer_of (count_outcome column)) × (s ≡ collected column old)
+    pub taking-done : length column ≤ i → (ok held ≡ count_outcome column) × (s ≡ collected column old)
     taking-done h = counted column old t.count (omega (arith, held-most, t.upto)) t.are h
 
 -- ---- many keys
@@ -224,7 +224,7 @@ module _ (column old : List ℤ) where
           }
 
       -- all keys
-      pub gathering-done : length column ≤ i → (Accepted (held + waiting) ≡ answer_of (count_outcome column)) × (after ≡ collected column old)
+      pub gathering-done : length column ≤ i → (ok (held + waiting) ≡ count_outcome column) × (after ≡ collected column old)
       gathering-done h = counted column old g.count g.few merged-are h
 
     -- ---- a key more
@@ -402,12 +402,12 @@ module _ (column old : List ℤ) where
                 let more-than = lt-leb (length (insert v (take waiting p))) (max_dictionary_cardinality - held) (omega (arith, n.0)) in
                 n.1
                 ∙ ap (λ (t : Bool). stored (cond t (insert v (take waiting p)) (take waiting p)) p) more-than
-                ∙ sym (same-front p waiting g.space)
+                ∙ sym (same_front p waiting g.space)
 
             pub gathering-stays : (waiting ≤ length q) × Mergeable s held (take waiting q)
             gathering-stays = rw stays (g.space, gathering-merges)
 
-            pub gathering-full : {after : List ℤ} → after ≡ merged s held (take waiting q) → (Refused 23 0 ≡ answer_of (count_outcome column)) × (after ≡ collected column old)
+            pub gathering-full : {after : List ℤ} → after ≡ merged s held (take waiting q) → (refused 23 0 ≡ count_outcome column) × (after ≡ collected column old)
             unfolding collected count_outcome
             gathering-full {after} f =
                 let n = new_told new-key in

@@ -18,7 +18,7 @@ use Rattle.format.specs.Answers.{stored}
 use Rattle.format.specs.Distinct.{insert}
 use Rattle.format.specs.Dictionary.{code_of}
 use Rattle.format.proofs.Numbers.Order.{lt_z-neither, lt_z-self}
-use Rattle.distinct.specs.Collect.{has, taken, gathered, gathered_count}
+use Rattle.distinct.specs.Collect.{taken}
 use Rattle.distinct.specs.Search.{stands_at}
 use Rattle.distinct.proofs.Codes.{code-le}
 use Rattle.distinct.proofs.Members.{eq_z-self}
@@ -80,9 +80,9 @@ insert-known key (x ∷ xs) l h = go (lt_z x key) l h (insert-known key xs)
 -- ---- the scratch
 
 -- with its own front a list is as it was
-pub same-front : (s : List ℤ) (held : ℕ) → held ≤ length s → s ≡ stored (take held s) s
+pub same_front : (s : List ℤ) (held : ℕ) → held ≤ length s → s ≡ stored (take held s) s
 unfolding stored
-same-front s held h = sym (ap (λ (n : ℕ). take held s ++ drop n s) (length-take-le held s h) ∙ take-append-drop held s)
+same_front s held h = sym (ap (λ (n : ℕ). take held s ++ drop n s) (length-take-le held s h) ∙ take-append-drop held s)
 
 module _ (s : List ℤ) (held cap at : ℕ) (key : ℤ) (room : held ≤ length s) (code : at ≡ code_of (take held s) key) where
   abbrev front : List ℤ
@@ -102,7 +102,7 @@ module _ (s : List ℤ) (held cap at : ℕ) (key : ℤ) (room : held ≤ length 
 
       pub taken-known : (held ≡ length (insert key front)) × (s ≡ stored (taken cap key front) s)
       unfolding taken
-      taken-known = (sym (ap length known ∙ many), same-front s held room ∙ ap (λ (l : List ℤ). stored l s) (go (leb (length (insert key front)) cap)))
+      taken-known = (sym (ap length known ∙ many), same_front s held room ∙ ap (λ (l : List ℤ). stored l s) (go (leb (length (insert key front)) cap)))
         where
           go : (t : Bool) → front ≡ cond t (insert key front) front
           go true = sym known
@@ -129,7 +129,7 @@ module _ (s : List ℤ) (held cap at : ℕ) (key : ℤ) (room : held ≤ length 
       -- and one too many
       pub taken-full : held ≡ cap → (held + 1 ≡ length (insert key front)) × (s ≡ stored (taken cap key front) s)
       unfolding taken
-      taken-full h = (sym more, same-front s held room ∙ ap (λ (t : Bool). stored (cond t (insert key front) front) s) (sym (lt-leb (length (insert key front)) cap (omega (arith, more)))))
+      taken-full h = (sym more, same_front s held room ∙ ap (λ (t : Bool). stored (cond t (insert key front) front) s) (sym (lt-leb (length (insert key front)) cap (omega (arith, more)))))
 
       -- and takes its place
       pub taken-new : held < cap → {after : List ℤ} → after ≡ opened s at held asked → (held + 1 ≡ length (insert key front)) × (after ≡ stored (taken cap key front) s)
@@ -143,18 +143,3 @@ module _ (s : List ℤ) (held cap at : ℕ) (key : ℤ) (room : held ≤ length 
             ∙ ap (λ (n : ℕ). insert key front ++ drop n s) (sym (more ∙ add-one held))
             ∙ ap (λ (t : Bool). stored (cond t (insert key front) front) s) (sym (le-leb (length (insert key front)) cap (omega (arith, more)))),
       )
-
--- ---- a key gathered
-
-module _ (cap : ℕ) (held : List ℤ) (p : List ℤ) (waiting : ℕ) {key asked : ℤ} {r : Bool} (e : r ≡ has held asked) (k : asked ≡ key) where
-  -- one that is held
-  pub gathered-held : waiting ≤ length p → r ≡ true → (waiting ≡ gathered_count held key (take waiting p)) × (p ≡ stored (gathered cap held key (take waiting p)) p)
-  unfolding gathered_count gathered
-  gathered-held h t = rw (ap (has held) (sym k) ∙ sym e ∙ t) (sym (length-take-le waiting p h), same-front p waiting h)
-
-  -- one that is not
-  pub gathered-other : r ≡ false → {many : ℕ} {after : List ℤ} → many ≡ length (insert asked (take waiting p)) → after ≡ stored (taken cap asked (take waiting p)) p
-      → (many ≡ gathered_count held key (take waiting p)) × (after ≡ stored (gathered cap held key (take waiting p)) p)
-  unfolding gathered_count gathered
-  gathered-other t m a =
-      rw (ap (has held) (sym k) ∙ sym e ∙ t) (m ∙ ap (λ (v : ℤ). length (insert v (take waiting p))) k, a ∙ ap (λ (v : ℤ). stored (taken cap v (take waiting p)) p) k)

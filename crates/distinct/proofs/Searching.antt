@@ -226,8 +226,8 @@ module _ (values : List ℤ) (key : ℤ) where
         (quartered-code low (2 ^ k) (omega (arith, four)) (pow_pos k) (w.0, omega (arith, four, w.1)))
 
     -- a search finds the key's code
-    pub searched-code : length values < 2 ^ 64 → searched values key ≡ code_of values key
-    searched-code fits = go (dec_lt 0 (length values))
+    pub searched_code : length values < 2 ^ 64 → searched values key ≡ code_of values key
+    searched_code fits = go (dec_lt 0 (length values))
       where
         n : ℕ
         n = length values

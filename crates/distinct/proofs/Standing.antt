@@ -1,5 +1,5 @@
 -- Whether a key stands at a place. Among rising values it stands at its code or nowhere, so a place where it stands needs no search.
-use mathlib.Core.Path.{◌≡◌, refl, sym, ap, ap₂, ◌∙◌}
+use mathlib.Core.Path.{◌≡◌, refl, sym, ap, ◌∙◌}
 use mathlib.Core.Bool.{Bool, true, false, ◌&&◌, ◌||◌}
 use mathlib.Core.List.{List, [], ◌∷◌}
 use Prim.Native.Nat.{ℕ, suc, ◌<◌}
@@ -20,11 +20,6 @@ use Rattle.distinct.proofs.Codes.{code-of-value}
 use Rattle.distinct.proofs.Members.{Ordered, less, same, greater, ordered, never_both, not-above, eq_z-self, eq_z-less, eq_z-greater, least}
 
 module _ (values : List ℤ) (at : ℕ) (key : ℤ) where
-  -- at a place that is there
-  pub stands_here : {value asked : ℤ} {r : Bool} → at < length values → value ≡ get_or values at (pos 0) → asked ≡ key → r ≡ eq_z value asked → r ≡ stands_at values at key
-  unfolding stands_at
-  stands_here h v k e = rw (lt-ltb at (length values) h) (e ∙ ap₂ {A = ℤ} {B = ℤ} eq_z v k)
-
   -- where the answer is yes
   module _ {r : Bool} (e : r ≡ stands_at values at key) (there : r ≡ true) where
     pub stands-value : (at < length values) × (get_or values at (pos 0) ≡ key)
@@ -71,10 +66,10 @@ module _ (v x : ℤ) (xs : List ℤ) where
   unfolding code_of
   code-later e = rw e
 
-pub stands-has : (v : ℤ) (values : List ℤ) → Rising values → stands_at values (code_of values v) v ≡ has values v
+pub stands_has : (v : ℤ) (values : List ℤ) → Rising values → stands_at values (code_of values v) v ≡ has values v
 unfolding stands_at code_of has
-stands-has v [] r = refl
-stands-has v (x ∷ xs) r = go (ordered v x) (has xs v) refl (stands-has v xs r.1)
+stands_has v [] r = refl
+stands_has v (x ∷ xs) r = go (ordered v x) (has xs v) refl (stands_has v xs r.1)
   where
     first : lt_z x v ≡ false → stands_at (x ∷ xs) (code_of (x ∷ xs) v) v ≡ eq_z x v
     first e = ap (λ (n : ℕ). stands_at (x ∷ xs) n v) (code-first v x xs e) ∙ stands-first v x xs

@@ -4,9 +4,7 @@ use Rattle.std.specs.Prelude.{ℕ, Bool, false, not, cond, ◌&&◌, ◌||◌, L
 use Rattle.format.specs.Keys.{eq_z}
 use Rattle.format.specs.Outcome.{Outcome, ok, check, ◌>>=◌}
 use Rattle.format.specs.Encodings.{max_chunk_elements}
-use Rattle.format.specs.Answers.{answer_of}
 use Rattle.format.specs.Distinct.{insert, distinct, too_many_distinct, scratch_check}
-use Rattle.format.specs.declared.Answer.{Answer}
 use Rattle.distinct.specs.Search.{slot_of}
 
 -- the question that is asked once the values are collected: "at most 16,384 distinct? 23". It finds how many there are
@@ -15,16 +13,12 @@ count_outcome column = do
   _ ← check (not (too_many_distinct column)) 23 0
   ok (length (distinct column))
 
--- the whole list, for a scratch of `room` places
+-- THE ANSWER of collecting them in a scratch of `room` places: accepted, with their number. The scratch after it is format's `write_scratch` of encoding 6
 unfoldable pub collect_outcome : List ℤ → ℕ → Outcome ℕ
 collect_outcome column room = do
   _ ← check (leb (length column) max_chunk_elements) 21 0
   _ ← scratch_check column room
   count_outcome column
-
--- THE ANSWER of collecting them: accepted, with their number. The scratch after it is format's `write_scratch` of encoding 6
-unfoldable pub collect_answer : List ℤ → ℕ → Answer
-collect_answer column room = answer_of (collect_outcome column room)
 
 -- whether a list has a key
 unfoldable pub has : List ℤ → ℤ → Bool

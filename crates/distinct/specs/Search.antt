@@ -1,5 +1,5 @@
 -- Looking for a key in a list of values by quarters. The definitions say where every turn goes, so they say what is found in any list; in a rising one it is the key's code, the
--- number of values that are less (proofs/Searching, `searched-code`).
+-- number of values that are less (proofs/Searching, `searched_code`).
 use Rattle.std.specs.Prelude.{ℕ, zero, suc, ◌+◌, ◌-◌, ◌*◌, ◌/◌, ◌%◌, ◌^◌, Bool, cond, ◌&&◌, List, ℤ, pos, ltb, eqb, length, get_or}
 use Rattle.std.specs.Int.Bits.{bit_and}
 use Rattle.std.specs.Int.Signed.{lt_z}

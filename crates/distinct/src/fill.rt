@@ -5,56 +5,60 @@
 // searches, at most 16,384 shifts in the buffer, and a merge for every buffer that is full.
 ghost use Rattle.std.specs.Prelude.{◌≡◌, ℕ, ◌≤◌, ◌<◌, pos, length, get_or};
 ghost use Rattle.format.specs.Encodings.{max_dictionary_cardinality};
-ghost use Rattle.format.specs.Answers.{answer_of};
+ghost use Rattle.format.specs.Answers.{outcome_of};
 ghost use Rattle.format.specs.Distinct.{scratch_needed, collected};
 ghost use Rattle.distinct.specs.Collect.{count_outcome};
 
 use crate::insert::{gather, take_in};
 use crate::known::{note, to_ask};
 use crate::merge::merge;
-use format::Answer;
 use format::limits::MAX_DICTIONARY_CARDINALITY;
+use format::{Kind, Refusal};
 
 // Collects the distinct values in a scratch that is long enough. To begin with, the first key waits, and it is in every slot.
-fn fill(column: &[i64], scratch: &mut [i64], pending: &mut [i64], seen: &mut [i64]) -> Answer
+fn fill(
+    column: &[i64],
+    scratch: &mut [i64],
+    pending: &mut [i64],
+    seen: &mut [i64],
+) -> Result<usize, Refusal>
     requires column_in_bounds { (scratch_needed column.now ≤ length scratch.old) × (0 < length column.now) × (1 < length pending.old) × (0 < length seen.old) }
     requires pos_value { get_or pending.old 0 (pos 0) ≡ get_or column.now 0 (pos 0) }
     requires by_index { (k : ℕ) → k < length seen.old → get_or seen.old k (pos 0) ≡ get_or column.now 0 (pos 0) }
-    ensures value { result ≡ answer_of (count_outcome column.now) }
+    ensures value { outcome_of result ≡ count_outcome column.now }
     ensures scratch_after { scratch.new ≡ collected column.now scratch.old }
 {
     let first = column[0];
     let mut held = 0;
     let mut waiting = 1;
-    let mut i = 1;
-    while i < column.len() {
-        let key = column[i];
-        i += 1;
+    for &key in &column[1..] {
         let asked = to_ask(seen, first, key, held);
-        if !note(seen, key) {
-            let cap = MAX_DICTIONARY_CARDINALITY - held;
-            let more = gather(scratch, asked, pending, waiting, cap, key);
-            if more > cap {
-                merge(scratch, held, &pending[..waiting]);
-                return Answer::Refused(format::refusal::TOO_MANY_DISTINCT, 0);
-            }
-            waiting = more;
-            if waiting == pending.len() {
-                merge(scratch, held, pending);
-                held += waiting;
-                waiting = 0;
-            }
+        if note(seen, key) {
+            continue;
         }
+        let cap = MAX_DICTIONARY_CARDINALITY - held;
+        let more = gather(&scratch[..asked], pending, waiting, cap, key);
+        if more > cap {
+            merge(scratch, held, &pending[..waiting]);
+            return Err(Kind::TooManyDistinct.at(0));
+        }
+        waiting = more;
+        if waiting < pending.len() {
+            continue;
+        }
+        merge(scratch, held, pending);
+        held += waiting;
+        waiting = 0;
     }
     merge(scratch, held, &pending[..waiting]);
-    Answer::Accepted(held + waiting)
+    Ok(held + waiting)
 }
 
 // The same with a buffer and a table of its own, for `wait` keys to wait at most. It has two callers, so the compiler keeps it
 // a function: a column of few keys does not pay for the pages of its frame, 64 of them.
-pub(crate) fn fill_many(column: &[i64], scratch: &mut [i64], wait: usize) -> Answer
+pub(crate) fn fill_many(column: &[i64], scratch: &mut [i64], wait: usize) -> Result<usize, Refusal>
     requires { (scratch_needed column.now ≤ length scratch.old) × (0 < length column.now) × (1 < wait) × (wait ≤ 256) }
-    ensures value { result ≡ answer_of (count_outcome column.now) }
+    ensures value { outcome_of result ≡ count_outcome column.now }
     ensures scratch_after { scratch.new ≡ collected column.now scratch.old }
 {
     let first = column[0];
@@ -64,14 +68,14 @@ pub(crate) fn fill_many(column: &[i64], scratch: &mut [i64], wait: usize) -> Ans
 }
 
 // The same for few keys: each is taken in at once, with no buffer and no table, which would have to be filled first.
-pub(crate) fn fill_few(column: &[i64], scratch: &mut [i64]) -> Answer
+pub(crate) fn fill_few(column: &[i64], scratch: &mut [i64]) -> Result<usize, Refusal>
     requires { (length column.now ≤ max_dictionary_cardinality) × (length column.now ≤ length scratch.old) }
-    ensures value { result ≡ answer_of (count_outcome column.now) }
+    ensures value { outcome_of result ≡ count_outcome column.now }
     ensures scratch_after { scratch.new ≡ collected column.now scratch.old }
 {
     let mut held = 0;
-    for i in 0..column.len() {
-        held = take_in(scratch, held, MAX_DICTIONARY_CARDINALITY, column[i]);
+    for &key in column {
+        held = take_in(scratch, held, MAX_DICTIONARY_CARDINALITY, key);
     }
-    Answer::Accepted(held)
+    Ok(held)
 }

@@ -2,21 +2,19 @@
 // stats.rs, and the sorted `Vec` and `partition_point` of its DictionaryCodec.
 #![tactic(auto)]
 
-ghost use Rattle.std.specs.Prelude.{◌≡◌, min, length};
-ghost use Rattle.format.specs.Encodings.{max_dictionary_cardinality};
+ghost use Rattle.std.specs.Prelude.{◌≡◌, length};
+ghost use Rattle.format.specs.Answers.{outcome_of};
 ghost use Rattle.format.specs.Write.{write_scratch};
-ghost use Rattle.distinct.specs.Collect.{collect_answer};
+ghost use Rattle.distinct.specs.Collect.{collect_outcome};
 ghost use Rattle.distinct.specs.Search.{searched, slot_of, stands_at};
 
 use crate::fill::{fill_few, fill_many};
-use crate::key::same;
 use crate::quarters::{begin, half, power, quarter, step};
-use format::Answer;
 use format::limits::{MAX_CHUNK_ELEMENTS, MAX_DICTIONARY_CARDINALITY};
+use format::{Kind, Refusal};
 
 pub(crate) mod fill;
 pub(crate) mod insert;
-pub(crate) mod key;
 pub(crate) mod known;
 pub(crate) mod merge;
 pub(crate) mod quarters;
@@ -43,17 +41,16 @@ pub fn search(values: &[i64], key: i64) -> usize
 }
 
 // Whether a key stands at a place.
+#[tactic(auto, unfolding(crate::specs::Search::stands_at))]
 pub fn stands(values: &[i64], at: usize, key: i64) -> bool
     ensures { result ≡ stands_at values.now at key }
 {
-    if values.len() <= at {
-        return false;
-    }
-    same(values[at], key)
+    at < values.len() && values[at] == key
 }
 
 // The slot of a key in a table of a power of two of slots: bits of its halves' sum multiplied by a prime, so that near keys have
 // slots far apart, on both sides of 0. A table of another length is not used evenly, and one of no slots has slot 0.
+#[tactic(auto, unfolding(crate::specs::Search::slot_of, crate::specs::Search::mixed))]
 pub fn slot_of(key: i64, slots: usize) -> usize
     ensures { result ≡ slot_of key slots }
 {
@@ -65,29 +62,19 @@ pub fn slot_of(key: i64, slots: usize) -> usize
     (folded * 2654435761 / 131072) as usize & (slots - 1)
 }
 
-// How many places a scratch needs for `count` values.
-fn places_needed(count: usize) -> usize
-    ensures { result ≡ min count max_dictionary_cardinality }
-{
-    if count < MAX_DICTIONARY_CARDINALITY {
-        count
-    } else {
-        MAX_DICTIONARY_CARDINALITY
-    }
-}
-
 // Collects the distinct values of a column in a scratch: at most 2^24 values? 21. A scratch of min(count, 16,384)? 22. At most
 // 16,384 distinct? 23. From then on the first 16,384 met stand at its front, rising, also where 23 refuses. The limits of 384 and
 // 4,096 keys were found by measuring: the fewer keys there are, the fewer should wait for a merge.
-pub fn collect(column: &[i64], scratch: &mut [i64]) -> Answer
-    ensures value { result ≡ collect_answer column.now (length scratch.old) }
+#[tactic(auto, unfolding(crate::specs::Collect::collect_outcome, format::specs::Write::write_scratch, format::specs::Write::write_checks, format::specs::Distinct::scratch_check, format::specs::Encodings::encoding_of, format::specs::Encodings::encodings))]
+pub fn collect(column: &[i64], scratch: &mut [i64]) -> Result<usize, Refusal>
+    ensures value { outcome_of result ≡ collect_outcome column.now (length scratch.old) }
     ensures scratch_after { scratch.new ≡ write_scratch 6 column.now scratch.old }
 {
     if column.len() > MAX_CHUNK_ELEMENTS {
-        return Answer::Refused(format::refusal::COLUMN_ABOVE_LIMIT, 0);
+        return Err(Kind::ColumnAboveLimit.at(0));
     }
-    if scratch.len() < places_needed(column.len()) {
-        return Answer::Refused(format::refusal::SCRATCH_TOO_SHORT, 0);
+    if scratch.len() < column.len().min(MAX_DICTIONARY_CARDINALITY) {
+        return Err(Kind::ScratchTooShort.at(0));
     }
     if column.len() <= 384 {
         return fill_few(column, scratch);

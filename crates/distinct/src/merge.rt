@@ -4,14 +4,12 @@ ghost use Rattle.std.specs.Prelude.{◌≡◌, false, ◌-◌, ◌≤◌, ◌<�
 ghost use Rattle.distinct.specs.Merge.{merged, last_over, Mergeable, Raised};
 
 // Whether the last of the first i values is greater than a key.
+#[tactic(auto, unfolding(crate::specs::Merge::last_over))]
 fn last_over(values: &[i64], i: usize, key: i64) -> bool
     requires { i ≤ length values.now }
     ensures { result ≡ last_over values.now i key }
 {
-    if i == 0 {
-        return false;
-    }
-    key < values[i - 1]
+    i > 0 && key < values[i - 1]
 }
 
 // The values that are greater than the last that waits go up by as many places as wait, the last first. Returns how many are

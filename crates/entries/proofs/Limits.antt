@@ -6,6 +6,7 @@ use native.Mathlib.Omega.{arith}
 use lib.IntN.{ℤ}
 use lib.ListN.{length}
 use borrow.Author.Tests.{le-leb, lt-leb}
+use Rattle.std.specs.Int.{div_ceil}
 use Rattle.format.specs.Varint.{uvarint_len}
 use Rattle.format.specs.Packing.{packed_len}
 use Rattle.format.specs.Encodings.{max_chunk_elements, max_dictionary_cardinality}
@@ -45,7 +46,9 @@ module _ (entries : List ℤ) (count : ℕ) where
       measured-within = rw (le-leb count max_chunk_elements few, le-leb (length entries) max_dictionary_cardinality held)
 
       -- by its parts
-      pub measured-parts : {total bytes width : ℕ} → total ≡ uvarint_len (length entries) → bytes ≡ entries_len entries → width ≡ code_width (length entries)
-          → total + bytes + 1 + (count * width + 7) / 8 ≡ measured entries count
+      pub measured-parts : {total bytes width codes : ℕ} → total ≡ uvarint_len (length entries) → bytes ≡ entries_len entries → width ≡ code_width (length entries)
+          → codes ≡ div_ceil (count * width) 8 → total + bytes + 1 + codes ≡ measured entries count
       unfolding body_len packed_len
-      measured-parts t b w = rw (t, b, w) (sym measured-within)
+      measured-parts {width} {codes} t b w e =
+          let c : codes ≡ (count * width + 7) / 8 = omega arith in
+          rw (t, b, c, w) (sym measured-within)

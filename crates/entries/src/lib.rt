@@ -9,14 +9,12 @@ ghost use Rattle.entries.specs.Measured.{measured};
 
 use format::limits::{MAX_CHUNK_ELEMENTS, MAX_DICTIONARY_CARDINALITY};
 
-// The width of the codes for so many entries, which is that of the last code.
+// The width of the codes for so many entries, which is that of the last code; 0 for none.
+#[tactic(auto, unfolding(format::specs::Dictionary::code_width))]
 pub fn code_width(entries: usize) -> u32
     ensures { result ≡ code_width entries }
 {
-    if entries == 0 {
-        return 0;
-    }
-    number::required_width((entries - 1) as u64)
+    number::required_width(entries.saturating_sub(1) as u64)
 }
 
 // How many bytes the entries have.
@@ -24,13 +22,12 @@ fn entries_len(entries: &[i64]) -> usize
     requires { length entries.now ≤ max_dictionary_cardinality }
     ensures { result ≡ entries_len entries.now }
 {
-    if entries.len() == 0 {
+    let Some((&first, rest)) = entries.split_first() else {
         return 0;
-    }
-    let mut last = entries[0];
-    let mut sum = varint::varint_len(last);
-    for i in 1..entries.len() {
-        let entry = entries[i];
+    };
+    let mut last = first;
+    let mut sum = varint::varint_len(first);
+    for &entry in rest {
         sum += varint::uvarint_len(number::gap(last, entry));
         last = entry;
     }
@@ -42,12 +39,12 @@ fn entries_len(entries: &[i64]) -> usize
 pub fn body_len(entries: &[i64], count: usize) -> usize
     ensures { result ≡ measured entries.now count }
 {
-    if MAX_CHUNK_ELEMENTS < count {
-        return 0;
-    }
-    if MAX_DICTIONARY_CARDINALITY < entries.len() {
+    if MAX_CHUNK_ELEMENTS < count || MAX_DICTIONARY_CARDINALITY < entries.len() {
         return 0;
     }
     let width = code_width(entries.len()) as usize;
-    varint::uvarint_len(entries.len() as u64) + entries_len(entries) + 1 + (count * width + 7) / 8
+    varint::uvarint_len(entries.len() as u64)
+        + entries_len(entries)
+        + 1
+        + (count * width).div_ceil(8)
 }

@@ -13,19 +13,16 @@ use lib.ListN.{length, take, length-take}
 use Rattle.format.specs.Outcome.{Outcome, refused, ok, check}
 use Rattle.format.specs.Encodings.{max_chunk_elements, max_dictionary_cardinality}
 use Rattle.format.specs.Distinct.{too_many_distinct, capped_distinct, collected}
+use Rattle.format.specs.Statistics.{StatsAnswer, refused_stats}
 use Rattle.format.specs.Statistics.{cardinality_of, stats_of, analysis_checks, stats_after_checks, stats_answer, analysis_scratch, distinct_values}
-use Rattle.format.specs.Estimates.{is_exact, estimates_from, estimates_of, refused_estimates, estimates_after_checks, estimates_answer}
-use Rattle.format.specs.declared.Answer.TheVariants.{Accepted, Refused}
+use Rattle.format.specs.Estimates.{EstimatesAnswer, is_exact, estimates_from, estimates_of, refused_estimates, estimates_after_checks, estimates_answer}
 use Rattle.format.specs.declared.IntegerStats.{IntegerStats}
 use Rattle.format.specs.declared.SizeEstimates.{SizeEstimates}
-use Rattle.format.specs.declared.StatsAnswer.{StatsAnswer}
 use Rattle.format.proofs.Codecs.Outcome.{both-passed, check-passed}
 use Rattle.format.proofs.Lengths.Limits.{total-varint_len-most, total-run_len-most}
 use Rattle.format.proofs.Numbers.Distinct.{few-distinct, capped_distinct-all, capped_distinct-most, distinct_values-all}
 use Rattle.format.proofs.Plan.Checks.{take-stored}
 use Rattle.estimates.specs.Sizes.{Within}
-use Rattle.estimates.specs.Survey.{survey_of}
-use Rattle.estimates.specs.declared.Surveyed.{Surveyed}
 
 -- the numbers of the record
 within-limits : (column : List ℤ) → length column ≤ max_chunk_elements → Within (stats_of column)
@@ -59,58 +56,60 @@ pub record Ready (r : IntegerStats) (after : List ℤ) (n : ℕ) : Type 0 where
   pub there : n ≤ length after
   pub few : length (take n after) ≤ max_dictionary_cardinality
 
-module _ (column scratch : List ℤ) {found : StatsAnswer} (told : found ≡ stats_answer column (length scratch)) where
-  pub survey-refused : {number offset : ℕ} {none : SizeEstimates} → found.answer ≡ Refused number offset → none ≡ refused_estimates
-      → ◌≡◌ {A = Surveyed} (record { answer = found.answer; stats = found.stats; estimates = none }) (survey_of column (length scratch))
-  unfolding survey_of stats_answer estimates_answer
-  survey-refused {none} h n = go (analysis_checks column (length scratch)) told
+-- refused
+pub survey_refused : (column : List ℤ) (room : ℕ) {number offset : ℕ}
+    → ◌≡◌ {A = StatsAnswer} (record { answer = refused number offset; stats = refused_stats }) (stats_answer column room)
+    → ◌≡◌ {A = EstimatesAnswer} (record { answer = refused number offset; estimates = refused_estimates }) (estimates_answer column room)
+unfolding stats_answer estimates_answer
+survey_refused column room {number} {offset} told = go (analysis_checks column room) (ap (λ (a : StatsAnswer). a.answer) told)
+  where
+    go : (o : Outcome (Unit {0})) → refused number offset ≡ (stats_after_checks o column).answer
+        → ◌≡◌ {A = EstimatesAnswer} (record { answer = refused number offset; estimates = refused_estimates }) (estimates_after_checks o column)
+    go (refused n k) h = rw h
+    go (ok u) h = let z : ◌≡◌ {A = ℕ} 0 1 = cc in absurd (omega arith)
+
+-- accepted
+module _ (column scratch : List ℤ) {n : ℕ} {r : IntegerStats}
+    (told : ◌≡◌ {A = StatsAnswer} (record { answer = ok n; stats = r }) (stats_answer column (length scratch))) where
+  passed : analysis_checks column (length scratch) ≡ ok tt
+  unfolding stats_answer
+  passed = go (analysis_checks column (length scratch)) refl (ap (λ (a : StatsAnswer). a.answer) told)
     where
-      go : (o : Outcome (Unit {0})) → found ≡ stats_after_checks o column
-          → ◌≡◌ {A = Surveyed} (record { answer = found.answer; stats = found.stats; estimates = none })
-          (record { answer = (stats_after_checks o column).answer; stats = (stats_after_checks o column).stats; estimates = (estimates_after_checks o column).estimates })
-      go (refused number offset) t = rw (t, n)
-      go (ok u) t = let z : ◌≡◌ {A = ℕ} 0 1 = cc in absurd (omega arith)
+      go : (o : Outcome (Unit {0})) → analysis_checks column (length scratch) ≡ o → ok n ≡ (stats_after_checks o column).answer → analysis_checks column (length scratch) ≡ ok tt
+      go (refused number offset) e h = let z : ◌≡◌ {A = ℕ} 0 1 = cc in absurd (omega arith)
+      go (ok u) e h = e
 
-  module _ {n : ℕ} (accepted : found.answer ≡ Accepted n) where
-    passed : analysis_checks column (length scratch) ≡ ok tt
-    unfolding stats_answer
-    passed = go (analysis_checks column (length scratch)) refl told
-      where
-        go : (o : Outcome (Unit {0})) → analysis_checks column (length scratch) ≡ o → found ≡ stats_after_checks o column → analysis_checks column (length scratch) ≡ ok tt
-        go (refused number offset) e t = let z : ◌≡◌ {A = ℕ} 0 1 = cc in absurd (omega arith)
-        go (ok u) e t = e
+  found-is : ◌≡◌ {A = StatsAnswer} (record { answer = ok n; stats = r }) (stats_after_checks (ok tt) column)
+  unfolding stats_answer
+  found-is = rw passed at told
 
-    found-is : found ≡ stats_after_checks (ok tt) column
-    unfolding stats_answer
-    found-is = rw passed at told
+  many : n ≡ length (capped_distinct column)
+  many = let h : ok n ≡ ok (length (capped_distinct column)) = ap (λ (a : StatsAnswer). a.answer) found-is in cc
 
-    many : n ≡ length (capped_distinct column)
-    many = cc (accepted, found-is)
+  same-record : r ≡ stats_of column
+  same-record = ap (λ (a : StatsAnswer). a.stats) found-is
 
-    same-record : found.stats ≡ stats_of column
-    same-record = ap (λ (a : StatsAnswer). a.stats) found-is
+  record-within : Within r
+  unfolding analysis_checks
+  record-within =
+      both-passed (check (leb (length column) max_chunk_elements) 21 0) _ passed λ _ size _.
+      rw same-record (within-limits column (leb-true _ _ (check-passed _ 21 0 size)))
 
-    record-within : Within found.stats
-    unfolding analysis_checks
-    record-within =
-        both-passed (check (leb (length column) max_chunk_elements) 21 0) _ passed λ _ size _.
-        rw same-record (within-limits column (leb-true _ _ (check-passed _ 21 0 size)))
+  -- the entries at the scratch's front
+  module _ {after : List ℤ} (left : after ≡ analysis_scratch column scratch) where
+    front : take n after ≡ capped_distinct column
+    unfolding analysis_scratch collected
+    front = rw (left, passed, many) (take-stored (capped_distinct column) scratch)
 
-    -- the entries at the scratch's front
-    module _ {after : List ℤ} (left : after ≡ analysis_scratch column scratch) where
-      front : take n after ≡ capped_distinct column
-      unfolding analysis_scratch collected
-      front = rw (left, passed, many) (take-stored (capped_distinct column) scratch)
+    pub survey_ready : Ready r after n
+    survey_ready =
+        record {
+          within = record-within;
+          there = omega (arith, many, ap length front, length-take n after);
+          few = rw front (omega (arith, capped_distinct-most column));
+        }
 
-      pub survey-ready : Ready found.stats after n
-      survey-ready =
-          record {
-            within = record-within;
-            there = omega (arith, many, ap length front, length-take n after);
-            few = rw front (omega (arith, capped_distinct-most column));
-          }
-
-      pub survey-accepted : {estimates : SizeEstimates} → estimates ≡ estimates_from found.stats (take n after)
-          → ◌≡◌ {A = Surveyed} (record { answer = Accepted n; stats = found.stats; estimates = estimates }) (survey_of column (length scratch))
-      unfolding survey_of stats_answer estimates_answer
-      survey-accepted e = rw (← accepted, e, front, told, passed, capped-estimates column)
+    pub survey_accepted : {estimates : SizeEstimates} → estimates ≡ estimates_from r (take n after)
+        → ◌≡◌ {A = EstimatesAnswer} (record { answer = ok n; estimates = estimates }) (estimates_answer column (length scratch))
+    unfolding estimates_answer
+    survey_accepted e = rw (e, front, passed, same-record, many, capped-estimates column)

@@ -1,7 +1,6 @@
 pub mod All
 pub mod Digits
 pub mod Places
-pub mod Words
 pub mod Packing
 pub mod Occurs
 pub mod Widths
@@ -13,3 +12,4 @@ pub mod Columns
 pub mod Extremes
 pub mod Distinct
 pub mod Stores
+pub mod Kinds

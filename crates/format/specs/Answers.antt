@@ -1,32 +1,32 @@
 -- Answers (01, "Questions at the counter"): "An answer is accepted, with the count of values or bytes stored, or a number with an offset, count 0."
 -- "Accepted: the values, or in writing the chunk, fill the buffer's front; the rest is untouched."
-use Rattle.std.specs.Prelude.{ℕ, List, ◌++◌, length, drop}
+use Rattle.std.specs.Prelude.{ℕ, List, ◌++◌, length, drop, Result, Ok, Err}
 use Rattle.format.specs.Outcome.{Outcome, refused, ok}
-use Rattle.format.specs.declared.Answer.{Answer}
-use Rattle.format.specs.declared.Answer.TheVariants.{Accepted, Refused}
+use Rattle.format.specs.Refusals.{kind_number}
+use Rattle.format.specs.declared.refusals.Refusal.{Refusal}
 
--- "Where an answer is an enum, a definition gives this paper's number and values for each of its cases": the number (0: accepted), the offset, the count
-abbrev pub number_of : Answer → ℕ
-number_of (Accepted count) = 0
-number_of (Refused number offset) = number
+-- What a result says, as the outcome of a list of questions: a refusal's kind is a number, and the map is one to one.
+abbrev pub outcome_of : {A : Type 0} → Result A Refusal → Outcome A
+outcome_of (Err refusal) = refused (kind_number refusal.kind) refusal.offset
+outcome_of (Ok found) = ok found
 
-abbrev pub offset_of : Answer → ℕ
-offset_of (Accepted count) = 0
-offset_of (Refused number offset) = offset
+-- "this paper's number and values": the number (0: accepted), the offset, the count
+abbrev pub number_of : Outcome ℕ → ℕ
+number_of (ok count) = 0
+number_of (refused number offset) = number
 
-abbrev pub count_of : Answer → ℕ
-count_of (Accepted count) = count
-count_of (Refused number offset) = 0
+abbrev pub offset_of : Outcome ℕ → ℕ
+offset_of (ok count) = 0
+offset_of (refused number offset) = offset
 
--- the answer of a list of questions that finds a count
-abbrev pub answer_of : Outcome ℕ → Answer
-answer_of (refused number offset) = Refused number offset
-answer_of (ok count) = Accepted count
+abbrev pub count_of : Outcome ℕ → ℕ
+count_of (ok count) = count
+count_of (refused number offset) = 0
 
 -- the answer of a list of questions that finds what is to be stored: "the count of values or bytes stored"
-abbrev pub stored_answer {ℓ} : {A : Type ℓ} → Outcome (List A) → Answer
-stored_answer (refused number offset) = Refused number offset
-stored_answer (ok front) = Accepted (length front)
+abbrev pub stored_answer {ℓ} : {A : Type ℓ} → Outcome (List A) → Outcome ℕ
+stored_answer (refused number offset) = refused number offset
+stored_answer (ok front) = ok (length front)
 
 -- "fill the buffer's front; the rest is untouched"
 unfoldable pub stored {ℓ} : {A : Type ℓ} → List A → List A → List A

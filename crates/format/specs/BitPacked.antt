@@ -1,12 +1,11 @@
 -- 3. BitPacked (01, "The chunk"): "width byte, packed ZigZags."
-use Rattle.std.specs.Prelude.{ℕ, ◌+◌, List, ◌∷◌, map, ℤ, get_or}
+use Rattle.std.specs.Prelude.{ℕ, ◌+◌, List, ◌∷◌, map, ℤ, get_or, Option}
 use Rattle.format.specs.Outcome.{Outcome, ok, ◌>>=◌}
 use Rattle.format.specs.Keys.{zigzag, unzigzag}
-use Rattle.format.specs.Varint.{Extent}
+use Rattle.format.specs.declared.Extent.{Extent}
 use Rattle.format.specs.Width.{width}
 use Rattle.format.specs.Packing.{packed, width_at, packed_end, packed_values}
 use Rattle.format.specs.Folds.{largest}
-use Rattle.format.specs.declared.Padded.{Padded}
 
 -- "Widths are those of the largest number packed": a width byte and the numbers packed at it
 unfoldable pub packed_body : List ℕ → List ℕ
@@ -17,7 +16,7 @@ unfoldable pub bit_packed_body : List ℤ → List ℕ
 bit_packed_body column = packed_body (map zigzag column)
 
 -- reading, from the body's start on
-unfoldable pub validate_bit_packed : List ℕ → ℕ → ℕ → Padded → Outcome Extent
+unfoldable pub validate_bit_packed : List ℕ → ℕ → ℕ → Option ℕ → Outcome Extent
 validate_bit_packed s start count padded = do
   w ← width_at s start
   end ← packed_end s (start + 1) w count

@@ -1,8 +1,8 @@
 -- The chunk, over the seven layouts (01, "The chunk"; "Questions at the counter", "In layout order"): what writing stores, what reading a body asks, and
 -- which values it gives.
-use Rattle.std.specs.Prelude.{ℕ, List, ◌++◌, ℤ, length}
+use Rattle.std.specs.Prelude.{ℕ, List, ◌++◌, ℤ, length, Option}
 use Rattle.format.specs.Outcome.{Outcome}
-use Rattle.format.specs.Varint.{Extent}
+use Rattle.format.specs.declared.Extent.{Extent}
 use Rattle.format.specs.Encodings.{id_of}
 use Rattle.format.specs.Header.{header_bytes}
 use Rattle.format.specs.Plain.{plain_body, validate_plain, plain_values}
@@ -12,9 +12,8 @@ use Rattle.format.specs.Frame.{frame_body, validate_frame, frame_values}
 use Rattle.format.specs.Runs.{run_body, validate_run_length, run_length_values}
 use Rattle.format.specs.Dictionary.{dictionary_body, validate_dictionary, dictionary_values}
 use Rattle.format.specs.Delta.{delta_body, validate_delta, delta_values}
-use Rattle.format.specs.declared.Encoding.{Encoding}
-use Rattle.format.specs.declared.Encoding.TheVariants.{Plain, Varint, BitPacked, FrameOfReference, RunLength, Dictionary, DeltaBinaryPacked}
-use Rattle.format.specs.declared.Padded.{Padded}
+use Rattle.format.specs.declared.encoding.Encoding.{Encoding}
+use Rattle.format.specs.declared.encoding.Encoding.TheVariants.{Plain, Varint, BitPacked, FrameOfReference, RunLength, Dictionary, DeltaBinaryPacked}
 
 -- what writing a column stores after the header
 unfoldable pub body_of : Encoding → List ℤ → List ℕ
@@ -32,7 +31,7 @@ chunk_of encoding column = header_bytes (id_of encoding) (length column) ++ body
 
 -- reading a body of `count` values that starts at `start` of the chunk s: where it ends, and the first padded varint. `padded` is the one that
 -- the header found
-unfoldable pub validate_body : Encoding → List ℕ → ℕ → ℕ → Padded → Outcome Extent
+unfoldable pub validate_body : Encoding → List ℕ → ℕ → ℕ → Option ℕ → Outcome Extent
 validate_body Plain s start count padded = validate_plain s start count padded
 validate_body Varint s start count padded = validate_varint_body s start count padded
 validate_body BitPacked s start count padded = validate_bit_packed s start count padded

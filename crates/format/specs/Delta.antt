@@ -1,14 +1,14 @@
 -- 7. DeltaBinaryPacked (01, "The chunk"): "with count 0 nothing more. Else first value, block size (written 128), then per block of deltas: least delta as signed
 -- varint, width byte, packed offsets. The last block may be shorter."
-use Rattle.std.specs.Prelude.{ℕ, zero, suc, ◌+◌, ◌-◌, ◌/◌, ◌^◌, min, List, [], ◌∷◌, ◌++◌, map, ℤ, pos, length, get_or, take, drop}
+use Rattle.std.specs.Prelude.{ℕ, zero, suc, ◌+◌, ◌-◌, ◌/◌, ◌^◌, min, List, [], ◌∷◌, ◌++◌, map, ℤ, pos, length, get_or, take, drop, Option}
 use Rattle.format.specs.Outcome.{Outcome, ok, check, ◌>>=◌}
 use Rattle.format.specs.Keys.{gap, wrapping_add, unzigzag}
-use Rattle.format.specs.Varint.{Extent, uvarint_bytes, varint_bytes, read_uvarint, uvarint_at, first_padded}
+use Rattle.format.specs.declared.Extent.{Extent}
+use Rattle.format.specs.Varint.{uvarint_bytes, varint_bytes, read_uvarint, uvarint_at, first_padded}
 use Rattle.format.specs.Packing.{packed_len, width_at, packed_end, packed_values}
 use Rattle.format.specs.Folds.{least, deltas}
 use Rattle.format.specs.Encodings.{within}
 use Rattle.format.specs.BitPacked.{packed_body}
-use Rattle.format.specs.declared.Padded.{Padded}
 
 -- "block size (written 128)"
 abbrev pub delta_block_size : ℕ
@@ -40,7 +40,7 @@ delta_body (first ∷ rest) =
 
 -- A walk from `at` on: k blocks are still to come, with `left` deltas. "The packed body of a delta block begins in the middle of the chunk and is
 -- unpacked from there."
-unfoldable pub validate_blocks : List ℕ → ℕ → ℕ → ℕ → ℕ → Padded → Outcome Extent
+unfoldable pub validate_blocks : List ℕ → ℕ → ℕ → ℕ → ℕ → Option ℕ → Outcome Extent
 validate_blocks s size at zero left padded = ok (record { end = at; padded = padded })
 validate_blocks s size at (suc k) left padded = do
   low ← read_uvarint s at
@@ -49,7 +49,7 @@ validate_blocks s size at (suc k) left padded = do
   validate_blocks s size end k (left - min left size) (first_padded padded at low.unpadded)
 
 -- reading, from the body's start on: "with count 0 nothing more"; "Block size 1 to 2^20? 19, just after."
-unfoldable pub validate_delta : List ℕ → ℕ → ℕ → Padded → Outcome Extent
+unfoldable pub validate_delta : List ℕ → ℕ → ℕ → Option ℕ → Outcome Extent
 validate_delta s start zero padded = ok (record { end = start; padded = padded })
 validate_delta s start (suc left) padded = do
   first ← read_uvarint s start

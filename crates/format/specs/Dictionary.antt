@@ -1,14 +1,14 @@
 -- 6. Dictionary (01, "The chunk"): "entry total; first entry as a signed varint; gaps as varints; width byte; packed codes. Written entries are the distinct
 -- values, rising. No entries: only total and width."
-use Rattle.std.specs.Prelude.{ℕ, suc, ◌+◌, ◌-◌, Bool, true, cond, ◌&&◌, List, [], ◌∷◌, ◌++◌, map, ℤ, pos, leb, ltb, length, get_or}
+use Rattle.std.specs.Prelude.{ℕ, suc, ◌+◌, ◌-◌, Bool, true, cond, ◌&&◌, List, [], ◌∷◌, ◌++◌, map, ℤ, pos, leb, ltb, length, get_or, Option}
 use Rattle.std.specs.Int.Signed.{lt_z}
 use Rattle.format.specs.Outcome.{Outcome, ok, check, ◌>>=◌}
 use Rattle.format.specs.Keys.{gap, wrapping_add, unzigzag}
-use Rattle.format.specs.Varint.{Extent, uvarint_bytes, varint_bytes, read_uvarint, uvarint_at, first_padded, validate_uvarints, uvarint_values, after_uvarints}
+use Rattle.format.specs.declared.Extent.{Extent}
+use Rattle.format.specs.Varint.{uvarint_bytes, varint_bytes, read_uvarint, uvarint_at, first_padded, validate_uvarints, uvarint_values, after_uvarints}
 use Rattle.format.specs.Width.{width}
 use Rattle.format.specs.Packing.{packed, width_at, packed_end, packed_values}
 use Rattle.format.specs.Distinct.{distinct}
-use Rattle.format.specs.declared.Padded.{Padded}
 
 -- ---- writing
 
@@ -49,7 +49,7 @@ all_below entries (c ∷ cs) = ltb c entries && all_below entries cs
 
 -- Reading, from the body's start on. "Entries at most the bytes left? 17, just after." The entries are as many varints in a row.
 -- "Each code below entries? 18, the width byte's place."
-unfoldable pub validate_dictionary : List ℕ → ℕ → ℕ → Padded → Outcome Extent
+unfoldable pub validate_dictionary : List ℕ → ℕ → ℕ → Option ℕ → Outcome Extent
 validate_dictionary s start count padded = do
   entries ← read_uvarint s start
   _ ← check (leb entries.value (length s - entries.next)) 17 entries.next

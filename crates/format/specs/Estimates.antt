@@ -1,5 +1,6 @@
 -- Estimates (01, "Statistics, estimates, plan"): "The seven candidate lengths keep the order of the ids .. All but Delta are exact lengths."
-use Rattle.std.specs.Prelude.{ℕ, ◌+◌, ◌-◌, ◌*◌, max, Bool, true, false, List, [], ◌∷◌, ℤ, leb, length, get_or}
+use Rattle.std.specs.Prelude.{ℕ, ◌+◌, ◌-◌, ◌*◌, max, Bool, true, false, List, [], ◌∷◌, ℤ, leb, length, get_or, Option, Some, None}
+use Rattle.std.specs.Option.{unwrap_or, is_some}
 use Rattle.format.specs.Outcome.{Outcome, refused, ok}
 use Rattle.format.specs.Keys.{gap}
 use Rattle.format.specs.Varint.{uvarint_len, varint_len}
@@ -11,13 +12,11 @@ use Rattle.format.specs.Distinct.{capped_distinct}
 use Rattle.format.specs.Dictionary.{code_width}
 use Rattle.format.specs.Delta.{delta_block_size, block_count}
 use Rattle.format.specs.Statistics.{stats_of, distinct_values, analysis_checks}
-use Rattle.format.specs.declared.Encoding.{Encoding}
+use Rattle.format.specs.declared.encoding.Encoding.{Encoding}
 use Rattle.format.specs.declared.Cardinality.{Cardinality}
 use Rattle.format.specs.declared.Cardinality.TheVariants.{Exact, AtLeast}
 use Rattle.format.specs.declared.IntegerStats.{IntegerStats}
 use Rattle.format.specs.declared.SizeEstimates.{SizeEstimates}
-use Rattle.format.specs.declared.Answer.TheVariants.{Accepted, Refused}
-use Rattle.format.specs.declared.EstimatesAnswer.{EstimatesAnswer}
 
 -- ---- the lengths, of a record and its distinct values
 
@@ -66,10 +65,10 @@ abbrev pub is_exact : Cardinality → Bool
 is_exact (Exact n) = true
 is_exact (AtLeast n) = false
 
--- "An unavailable candidate's length is always 0."
-abbrev pub if_available : Bool → ℕ → ℕ
-if_available true n = n
-if_available false n = 0
+-- a candidate's length, if it is available
+abbrev pub size_if : Bool → ℕ → Option ℕ
+size_if true n = Some n
+size_if false n = None
 
 -- "Dictionary needs at most 16,384 distinct values, Delta at least two values; the other five need nothing to be available."
 unfoldable pub estimates_from : IntegerStats → List ℤ → SizeEstimates
@@ -78,35 +77,35 @@ estimates_from r entries =
     let two_values = leb 2 r.count in
     record {
       lengths =
-          plain_estimate r ∷ varint_estimate r ∷ bit_packed_estimate r ∷ frame_estimate r ∷ run_length_estimate r
-          ∷ if_available few_distinct (dictionary_estimate r entries) ∷ if_available two_values (delta_estimate r) ∷ [];
-      available = true ∷ true ∷ true ∷ true ∷ true ∷ few_distinct ∷ two_values ∷ [];
+          Some (plain_estimate r) ∷ Some (varint_estimate r) ∷ Some (bit_packed_estimate r) ∷ Some (frame_estimate r) ∷ Some (run_length_estimate r)
+          ∷ size_if few_distinct (dictionary_estimate r entries) ∷ size_if two_values (delta_estimate r) ∷ [];
     }
 
 -- the estimates of a column
 unfoldable pub estimates_of : List ℤ → SizeEstimates
 estimates_of column = estimates_from (stats_of column) (distinct_values column)
 
--- an encoding's length, and whether it is available
+-- an encoding's length, and whether it is available. "An unavailable candidate's length is always 0."
 unfoldable pub length_in : SizeEstimates → Encoding → ℕ
-length_in es encoding = get_or es.lengths (id_of encoding - 1) 0
+length_in es encoding = unwrap_or (get_or es.lengths (id_of encoding - 1) None) 0
 
 unfoldable pub available_in : SizeEstimates → Encoding → Bool
-available_in es encoding = get_or es.available (id_of encoding - 1) false
+available_in es encoding = is_some (get_or es.lengths (id_of encoding - 1) None)
 
 -- "A refused .. list of estimates .. has every number 0, .. and no candidate available."
 unfoldable pub refused_estimates : SizeEstimates
-refused_estimates =
-    record {
-      lengths = 0 ∷ 0 ∷ 0 ∷ 0 ∷ 0 ∷ 0 ∷ 0 ∷ [];
-      available = false ∷ false ∷ false ∷ false ∷ false ∷ false ∷ false ∷ [];
-    }
+refused_estimates = record { lengths = None ∷ None ∷ None ∷ None ∷ None ∷ None ∷ None ∷ [] }
 
 -- ---- the call, for a scratch of `room` places (the scratch after it: `analysis_scratch` of Statistics)
 
+-- what the call gives: its answer, and the record
+pub record EstimatesAnswer : Type 0 where
+  pub answer : Outcome ℕ
+  pub estimates : SizeEstimates
+
 abbrev pub estimates_after_checks : Outcome (Unit {0}) → List ℤ → EstimatesAnswer
-estimates_after_checks (refused number offset) column = record { answer = Refused number offset; estimates = refused_estimates }
-estimates_after_checks (ok done) column = record { answer = Accepted (length (capped_distinct column)); estimates = estimates_of column }
+estimates_after_checks (refused number offset) column = record { answer = refused number offset; estimates = refused_estimates }
+estimates_after_checks (ok done) column = record { answer = ok (length (capped_distinct column)); estimates = estimates_of column }
 
 unfoldable pub estimates_answer : List ℤ → ℕ → EstimatesAnswer
 estimates_answer column room = estimates_after_checks (analysis_checks column room) column

@@ -1,10 +1,9 @@
 -- The chunk's header (01, "The chunk": "Header: id, version 01, count varint"; "Questions at the counter", "Reading", its first paragraph).
-use Rattle.std.specs.Prelude.{ℕ, ◌+◌, ◌&&◌, List, ◌∷◌, leb, ltb, eqb, length, get_or}
+use Rattle.std.specs.Prelude.{ℕ, ◌+◌, ◌&&◌, List, ◌∷◌, leb, ltb, eqb, length, get_or, None}
 use Rattle.format.specs.Outcome.{Outcome, ok, check, ◌>>=◌}
 use Rattle.format.specs.Varint.{uvarint_len, uvarint_bytes, read_uvarint, first_padded}
+use Rattle.format.specs.declared.Header.{Header}
 use Rattle.format.specs.Encodings.{within, max_chunk_elements}
-use Rattle.format.specs.declared.Padded.{Padded}
-use Rattle.format.specs.declared.Padded.TheVariants.{Nowhere}
 
 -- ---- writing
 
@@ -39,13 +38,7 @@ read_id (named name) s = do
   _ ← check (eqb (get_or s 0 0) name) 4 0
   ok (get_or s 0 0)
 
--- what a header says: the id, the count, where the body starts; and the first padded varint so far
-pub record Header : Type 0 where
-  pub id : ℕ
-  pub count : ℕ
-  pub start : ℕ
-  pub padded : Padded
-
+-- What a header says: the id, the count, where the body starts; and the first padded varint so far.
 -- "Then, both: version 1? 5, at 1." The count's varint. "Count at most 2^24? 8, at 2."
 unfoldable pub read_header : Naming → List ℕ → Outcome Header
 read_header naming s = do
@@ -53,4 +46,4 @@ read_header naming s = do
   _ ← check (eqb (get_or s 1 0) 1) 5 1
   count ← read_uvarint s 2
   _ ← check (leb count.value max_chunk_elements) 8 2
-  ok (record { id = id; count = count.value; start = count.next; padded = first_padded Nowhere 2 count.unpadded })
+  ok (record { id = id; count = count.value; start = count.next; padded = first_padded None 2 count.unpadded })

@@ -1,4 +1,5 @@
 pub mod Outcome
+pub mod Refusals
 pub mod Digits
 pub mod Keys
 pub mod Width

@@ -7,15 +7,13 @@ use Rattle.format.specs.Encodings.{id_of, encodings, decode_cost_rank}
 use Rattle.format.specs.Distinct.{capped_distinct}
 use Rattle.format.specs.Statistics.{stats_of, distinct_values, analysis_checks, scratch_after}
 use Rattle.format.specs.Estimates.{estimates_from, length_in, available_in, refused_estimates}
-use Rattle.format.specs.declared.Encoding.{Encoding}
-use Rattle.format.specs.declared.Encoding.TheVariants.{Plain}
+use Rattle.format.specs.declared.encoding.Encoding.{Encoding}
+use Rattle.format.specs.declared.encoding.Encoding.TheVariants.{Plain}
 use Rattle.format.specs.declared.PlanReason.{PlanReason}
 use Rattle.format.specs.declared.PlanReason.TheVariants.{Empty, CompressionDisabled, SmallestEstimate, GainBelowThreshold}
 use Rattle.format.specs.declared.IntegerStats.{IntegerStats}
 use Rattle.format.specs.declared.SizeEstimates.{SizeEstimates}
 use Rattle.format.specs.declared.EncodingPlan.{EncodingPlan}
-use Rattle.format.specs.declared.Answer.TheVariants.{Accepted, Refused}
-use Rattle.format.specs.declared.PlanAnswer.{PlanAnswer}
 
 -- ---- the best candidate
 
@@ -117,9 +115,14 @@ plan_checks level column room = do
   _ ← check (leb level 9) 24 0
   analysis_checks column room
 
+-- what the call gives: its answer, and the record
+pub record PlanAnswer : Type 0 where
+  pub answer : Outcome ℕ
+  pub plan : EncodingPlan
+
 abbrev pub plan_after_checks : Outcome (Unit {0}) → ℕ → List ℤ → PlanAnswer
-plan_after_checks (refused number offset) level column = record { answer = Refused number offset; plan = refused_plan }
-plan_after_checks (ok done) level column = record { answer = Accepted (length (capped_distinct column)); plan = plan_of level column }
+plan_after_checks (refused number offset) level column = record { answer = refused number offset; plan = refused_plan }
+plan_after_checks (ok done) level column = record { answer = ok (length (capped_distinct column)); plan = plan_of level column }
 
 unfoldable pub plan_answer : ℕ → List ℤ → ℕ → PlanAnswer
 plan_answer level column room = plan_after_checks (plan_checks level column room) level column

@@ -1,14 +1,12 @@
 -- Reading a chunk (01, "Questions at the counter": "Reading", and "Strict reading").
-use Rattle.std.specs.Prelude.{ℕ, Bool, true, false, List, ℤ, leb, eqb, length}
+use Rattle.std.specs.Prelude.{ℕ, Bool, true, false, List, ℤ, leb, eqb, length, Option, Some, None}
 use Rattle.format.specs.Outcome.{Outcome, refused, ok, check, ◌>>=◌}
-use Rattle.format.specs.Varint.{Extent}
+use Rattle.format.specs.declared.Extent.{Extent}
 use Rattle.format.specs.Encodings.{encoding_of}
-use Rattle.format.specs.Answers.{answer_of, buffer_after}
-use Rattle.format.specs.Header.{Naming, Header, read_header}
+use Rattle.format.specs.Answers.{buffer_after}
+use Rattle.format.specs.Header.{Naming, read_header}
+use Rattle.format.specs.declared.Header.{Header}
 use Rattle.format.specs.Chunk.{validate_body, body_values}
-use Rattle.format.specs.declared.Answer.{Answer}
-use Rattle.format.specs.declared.Padded.{Padded}
-use Rattle.format.specs.declared.Padded.TheVariants.{Nowhere, At}
 
 -- what the questions up to the body's end find: the header, and the body's extent
 pub record Validated : Type 0 where
@@ -23,9 +21,9 @@ validate naming s = do
   ok (record { header = h; body = b })
 
 -- "does every varint read end on a nonzero byte, or have one byte? 25, its start."
-abbrev pub no_padding : Padded → Outcome (Unit {0})
-no_padding Nowhere = ok tt
-no_padding (At start) = refused 25 start
+abbrev pub no_padding : Option ℕ → Outcome (Unit {0})
+no_padding None = ok tt
+no_padding (Some start) = refused 25 start
 
 -- "Strict reading, named or not, puts after all but 20": 25, then "Does the chunk end with its body? 26, first byte over."
 unfoldable pub strict_checks : Bool → List ℕ → Extent → Outcome (Unit {0})
@@ -47,8 +45,8 @@ unfoldable pub values_of : List ℕ → Validated → List ℤ
 values_of s c = body_values (encoding_of c.header.id) s c.header.start c.header.count
 
 -- THE ANSWER of reading the chunk s into a column buffer of `room` places: accepted, with the count of values
-unfoldable pub read_answer : Bool → Naming → List ℕ → ℕ → Answer
-read_answer strict naming s room = answer_of (read_outcome strict naming s room >>= λ c. ok c.header.count)
+unfoldable pub read_answer : Bool → Naming → List ℕ → ℕ → Outcome ℕ
+read_answer strict naming s room = read_outcome strict naming s room >>= λ c. ok c.header.count
 
 -- THE COLUMN BUFFER after that. "Accepted: the values .. fill the buffer's front; the rest is untouched."
 unfoldable pub read_column : Bool → Naming → List ℕ → List ℤ → List ℤ

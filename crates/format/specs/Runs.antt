@@ -1,9 +1,9 @@
 -- 5. RunLength (01, "The chunk"): "run total, then per run a signed varint and a length. Written runs are longest possible; a zero length is read."
-use Rattle.std.specs.Prelude.{ℕ, zero, suc, ◌+◌, ◌-◌, cond, List, [], ◌∷◌, ◌++◌, ℤ, leb, eqb, length, replicate}
+use Rattle.std.specs.Prelude.{ℕ, zero, suc, ◌+◌, ◌-◌, cond, List, [], ◌∷◌, ◌++◌, ℤ, leb, eqb, length, replicate, Option}
 use Rattle.format.specs.Outcome.{Outcome, ok, check, ◌>>=◌}
 use Rattle.format.specs.Keys.{eq_z, unzigzag}
-use Rattle.format.specs.Varint.{Extent, uvarint_bytes, varint_bytes, read_uvarint, uvarint_at, first_padded}
-use Rattle.format.specs.declared.Padded.{Padded}
+use Rattle.format.specs.declared.Extent.{Extent}
+use Rattle.format.specs.Varint.{uvarint_bytes, varint_bytes, read_uvarint, uvarint_at, first_padded}
 
 -- ---- writing
 
@@ -36,7 +36,7 @@ run_body column = uvarint_bytes (length (runs column)) ++ run_bytes (runs column
 
 -- A walk from `at` on: `n` runs are still to come, and `left` values. "length at most what is left? 15; both just after that varint. Lengths sum to
 -- count? 16, at 0."
-unfoldable pub validate_runs : List ℕ → ℕ → ℕ → ℕ → Padded → Outcome Extent
+unfoldable pub validate_runs : List ℕ → ℕ → ℕ → ℕ → Option ℕ → Outcome Extent
 validate_runs s at zero left padded = do
   _ ← check (eqb left 0) 16 0
   ok (record { end = at; padded = padded })
@@ -47,7 +47,7 @@ validate_runs s at (suc n) left padded = do
   validate_runs s times.next n (left - times.value) (first_padded (first_padded padded at key.unpadded) key.next times.unpadded)
 
 -- reading, from the body's start on: "Runs at most count? 14; .. both just after that varint."
-unfoldable pub validate_run_length : List ℕ → ℕ → ℕ → Padded → Outcome Extent
+unfoldable pub validate_run_length : List ℕ → ℕ → ℕ → Option ℕ → Outcome Extent
 validate_run_length s start count padded = do
   n ← read_uvarint s start
   _ ← check (leb n.value count) 14 n.next

@@ -1,23 +1,19 @@
 -- The calls on numbers and bytes alone (01, "Questions at the counter", last paragraph): "Packing alone: 21, 12, 20; unpacking alone: 21, 12, 13, 20; packed
 -- length alone: 21, 12. A varint alone: read from a given place, past the end or not, 6, 7; written, 20. Offsets of 21 to 24 are 0."
 use Rattle.std.specs.Prelude.{ℕ, List, ℤ, leb, length}
-use Rattle.format.specs.Outcome.{Outcome, refused, ok, check, ◌>>=◌}
+use Rattle.format.specs.Outcome.{Outcome, ok, check, ◌>>=◌}
 use Rattle.format.specs.Keys.{zigzag, unzigzag}
-use Rattle.format.specs.Varint.{uvarint_len, uvarint_bytes, UvarintRead, read_uvarint}
+use Rattle.format.specs.Varint.{uvarint_len, uvarint_bytes, read_uvarint}
 use Rattle.format.specs.Packing.{packed_len, packed, unpacked, packed_end}
+use Rattle.format.specs.declared.Varint.{Varint}
 use Rattle.format.specs.Encodings.{max_chunk_elements}
-use Rattle.format.specs.Answers.{answer_of, stored_answer, buffer_after}
-use Rattle.format.specs.declared.Answer.{Answer}
-use Rattle.format.specs.declared.UvarintAnswer.{UvarintAnswer}
-use Rattle.format.specs.declared.UvarintAnswer.TheVariants.{Read, Malformed}
-use Rattle.format.specs.declared.VarintAnswer.{VarintAnswer}
-use Rattle.format.specs.declared.VarintAnswer.TheVariants.{Read as SignedRead, Malformed as SignedMalformed}
+use Rattle.format.specs.Answers.{stored_answer, buffer_after}
 
 -- ---- packing
 
 -- "packed length alone: 21, 12": accepted, with the length
-unfoldable pub packed_len_answer : ℕ → ℕ → Answer
-packed_len_answer count w = answer_of do
+unfoldable pub packed_len_answer : ℕ → ℕ → Outcome ℕ
+packed_len_answer count w = do
   _ ← check (leb count max_chunk_elements) 21 0
   _ ← check (leb w 64) 12 0
   ok (packed_len count w)
@@ -31,7 +27,7 @@ pack_outcome values w space = do
   ok (packed w values)
 
 -- THE ANSWER of packing, and THE OUTPUT after it
-unfoldable pub pack_answer : List ℕ → ℕ → ℕ → Answer
+unfoldable pub pack_answer : List ℕ → ℕ → ℕ → Outcome ℕ
 pack_answer values w space = stored_answer (pack_outcome values w space)
 
 unfoldable pub pack_output : List ℕ → ℕ → List ℕ → List ℕ
@@ -46,7 +42,7 @@ unpack_outcome s w count room = do
   ok (unpacked w count s)
 
 -- THE ANSWER of unpacking, and THE VALUES' BUFFER after it
-unfoldable pub unpack_answer : List ℕ → ℕ → ℕ → ℕ → Answer
+unfoldable pub unpack_answer : List ℕ → ℕ → ℕ → ℕ → Outcome ℕ
 unpack_answer s w count room = stored_answer (unpack_outcome s w count room)
 
 unfoldable pub unpack_buffer : List ℕ → ℕ → ℕ → List ℕ → List ℕ
@@ -54,22 +50,11 @@ unpack_buffer s w count buffer = buffer_after (unpack_outcome s w count (length 
 
 -- ---- varints
 
--- "A varint alone: read from a given place, past the end or not, 6, 7": its value, the place after it, and whether it is unpadded
-abbrev pub uvarint_answer_of : Outcome UvarintRead → UvarintAnswer
-uvarint_answer_of (refused number offset) = Malformed number offset
-uvarint_answer_of (ok v) = Read v.value v.next v.unpadded
-
--- THE ANSWER of reading a varint
-unfoldable pub uvarint_answer : List ℕ → ℕ → UvarintAnswer
-uvarint_answer s at = uvarint_answer_of (read_uvarint s at)
-
--- and of a signed one
-abbrev pub varint_answer_of : Outcome UvarintRead → VarintAnswer
-varint_answer_of (refused number offset) = SignedMalformed number offset
-varint_answer_of (ok v) = SignedRead (unzigzag v.value) v.next v.unpadded
-
-unfoldable pub varint_answer : List ℕ → ℕ → VarintAnswer
-varint_answer s at = varint_answer_of (read_uvarint s at)
+-- "A varint alone: read from a given place, past the end or not, 6, 7" is `read_uvarint`; and of a signed one
+unfoldable pub read_varint : List ℕ → ℕ → Outcome Varint
+read_varint s at = do
+  v ← read_uvarint s at
+  ok (record { value = unzigzag v.value; next = v.next; unpadded = v.unpadded })
 
 -- "written, 20", offset the length needed: the bytes, for an output of `space` bytes
 unfoldable pub uvarint_write_outcome : ℕ → ℕ → Outcome (List ℕ)
@@ -78,14 +63,14 @@ uvarint_write_outcome x space = do
   ok (uvarint_bytes x)
 
 -- THE ANSWER of writing a varint, and THE OUTPUT after it
-unfoldable pub uvarint_write_answer : ℕ → ℕ → Answer
+unfoldable pub uvarint_write_answer : ℕ → ℕ → Outcome ℕ
 uvarint_write_answer x space = stored_answer (uvarint_write_outcome x space)
 
 unfoldable pub uvarint_write_output : ℕ → List ℕ → List ℕ
 uvarint_write_output x output = buffer_after (uvarint_write_outcome x (length output)) output
 
 -- and of a signed one
-unfoldable pub varint_write_answer : ℤ → ℕ → Answer
+unfoldable pub varint_write_answer : ℤ → ℕ → Outcome ℕ
 varint_write_answer v space = uvarint_write_answer (zigzag v) space
 
 unfoldable pub varint_write_output : ℤ → List ℕ → List ℕ

@@ -14,8 +14,6 @@ use Rattle.format.specs.declared.Sortedness.TheVariants.{Constant, Ascending, De
 use Rattle.format.specs.declared.Cardinality.{Cardinality}
 use Rattle.format.specs.declared.Cardinality.TheVariants.{Exact, AtLeast}
 use Rattle.format.specs.declared.IntegerStats.{IntegerStats}
-use Rattle.format.specs.declared.Answer.TheVariants.{Accepted, Refused}
-use Rattle.format.specs.declared.StatsAnswer.{StatsAnswer}
 
 -- ---- the record
 
@@ -43,6 +41,11 @@ sortedness_of (v ∷ vs) = sortedness_from (non_decreasing v vs) (non_increasing
 -- "Above 16,384 distinct values the cardinality is AtLeast(16385)."
 unfoldable pub cardinality_of : List ℤ → Cardinality
 cardinality_of column = cond (too_many_distinct column) (AtLeast (max_dictionary_cardinality + 1)) (Exact (length (distinct column)))
+
+-- the number of distinct values, or the number that there are at least
+abbrev pub cardinality_count : Cardinality → ℕ
+cardinality_count (Exact n) = n
+cardinality_count (AtLeast n) = n
 
 -- how many bytes a run takes: "per run a signed varint and a length"
 unfoldable pub run_len : Run → ℕ
@@ -96,10 +99,15 @@ analysis_checks column room = do
   _ ← check (leb (length column) max_chunk_elements) 21 0
   scratch_check column room
 
+-- what the call gives: its answer, and the record
+pub record StatsAnswer : Type 0 where
+  pub answer : Outcome ℕ
+  pub stats : IntegerStats
+
 -- statistics: accepted, with the count of values that the scratch's front holds
 abbrev pub stats_after_checks : Outcome (Unit {0}) → List ℤ → StatsAnswer
-stats_after_checks (refused number offset) column = record { answer = Refused number offset; stats = refused_stats }
-stats_after_checks (ok done) column = record { answer = Accepted (length (capped_distinct column)); stats = stats_of column }
+stats_after_checks (refused number offset) column = record { answer = refused number offset; stats = refused_stats }
+stats_after_checks (ok done) column = record { answer = ok (length (capped_distinct column)); stats = stats_of column }
 
 unfoldable pub stats_answer : List ℤ → ℕ → StatsAnswer
 stats_answer column room = stats_after_checks (analysis_checks column room) column

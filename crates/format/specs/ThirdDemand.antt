@@ -11,11 +11,11 @@ use Rattle.format.specs.Write.{write_answer, write_output}
 use Rattle.format.specs.Read.{read_answer, read_column}
 use Rattle.format.specs.Estimates.{length_in, available_in}
 use Rattle.format.specs.Plan.{plan_of, plan_answer, meets_gain}
-use Rattle.format.specs.declared.Encoding.{Encoding}
-use Rattle.format.specs.declared.Encoding.TheVariants.{Plain, Dictionary, DeltaBinaryPacked}
+use Rattle.format.specs.declared.encoding.Encoding.{Encoding}
+use Rattle.format.specs.declared.encoding.Encoding.TheVariants.{Plain, Dictionary, DeltaBinaryPacked}
 use Rattle.format.specs.declared.PlanReason.TheVariants.{GainBelowThreshold}
 use Rattle.format.specs.declared.EncodingPlan.{EncodingPlan}
-use Rattle.format.specs.declared.Answer.TheVariants.{Accepted}
+use Rattle.format.specs.Outcome.{ok}
 
 -- "named by that encoding or not"
 pub data NamedFor (encoding : Encoding) : Naming → Type 0 where
@@ -36,12 +36,12 @@ WritingScratch column encoding room = encoding ≡ Dictionary → scratch_needed
 pub record RoundTrip
     (column : List ℤ) (level : ℕ) (lent : List ℤ) (plan : EncodingPlan) (scratch : List ℤ) (output : List ℕ) (buffer : List ℤ) : Type 0 where
   -- "None of this is refused": planning answers with the count of distinct values that it stored, writing with the length of the column's chunk,
-  pub planned : plan_answer level column (length lent) ≡ record { answer = Accepted (length (capped_distinct column)); plan = plan }
-  pub written : write_answer (id_of plan.encoding) column (length scratch) (length output) ≡ Accepted (length (chunk_of plan.encoding column))
+  pub planned : plan_answer level column (length lent) ≡ record { answer = ok (length (capped_distinct column)); plan = plan }
+  pub written : write_answer (id_of plan.encoding) column (length scratch) (length output) ≡ ok (length (chunk_of plan.encoding column))
   -- and reading, "strict or not", with the column's count; "and reading gives back exactly its keys in order"
   pub read :
       (strict : Bool) (naming : Naming) → NamedFor plan.encoding naming
-      → read_answer strict naming (chunk_stored plan.encoding column scratch output) (length buffer) ≡ Accepted (length column)
+      → read_answer strict naming (chunk_stored plan.encoding column scratch output) (length buffer) ≡ ok (length column)
   pub back :
       (strict : Bool) (naming : Naming) → NamedFor plan.encoding naming
       → take (length column) (read_column strict naming (chunk_stored plan.encoding column scratch output) buffer) ≡ column
@@ -52,7 +52,7 @@ pub record RoundTrip
   -- "The bytes of any other chunk are the count that writing this column in that encoding answers, where lent enough."
   pub others :
       (e : Encoding) → available_in plan.estimates e ≡ true → (room space : ℕ) → WritingScratch column e room → length (chunk_of e column) ≤ space
-      → write_answer (id_of e) column room space ≡ Accepted (length (chunk_of e column))
+      → write_answer (id_of e) column room space ≡ ok (length (chunk_of e column))
   -- "At levels 1 to 9 the column's chunk in every available encoding but delta has at least as many bytes as the estimate, and delta's own estimate,
   -- where delta is available, is at least that too; save where plain was kept for too little gain"
   pub shortest :

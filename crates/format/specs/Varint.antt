@@ -1,14 +1,14 @@
 -- Varints (01, "Numbers as bytes"): "A varint is 7-bit groups, lowest first, top bit set on all but the last byte. Its value is the sum modulo 2^64, so a
 -- tenth byte counts by its lowest bit. Written shortest; longer forms up to ten bytes are read."
 -- Names follow the Rust: 01's varint is a `uvarint` here, and 01's signed varint, "the varint of the ZigZag", a `varint`.
-use Rattle.std.specs.Prelude.{ℕ, zero, suc, ◌+◌, ◌-◌, ◌/◌, ◌%◌, ◌^◌, max, Bool, true, false, cond, not, ◌||◌, List, [], ◌∷◌, map, ℤ, ltb, eqb, get_or, drop}
+use Rattle.std.specs.Prelude.{ℕ, zero, suc, ◌+◌, ◌-◌, ◌/◌, ◌%◌, ◌^◌, max, Bool, true, false, cond, not, ◌||◌, List, [], ◌∷◌, map, ℤ, ltb, eqb, get_or, drop, Option, Some, None}
 use Rattle.std.proofs.Math.Seq.{slice}
 use Rattle.format.specs.Outcome.{Outcome, refused, ok, ◌>>=◌, value_or}
 use Rattle.format.specs.Digits.{of_digits, digits}
 use Rattle.format.specs.Keys.{zigzag}
 use Rattle.format.specs.Width.{width}
-use Rattle.format.specs.declared.Padded.{Padded}
-use Rattle.format.specs.declared.Padded.TheVariants.{Nowhere, At}
+use Rattle.format.specs.declared.Uvarint.{Uvarint}
+use Rattle.format.specs.declared.Extent.{Extent}
 
 -- ---- writing
 
@@ -50,36 +50,26 @@ uvarint_value s from to = of_digits 128 (map (λ b. b % 128) (slice from to s)) 
 unfoldable pub ends_unpadded : List ℕ → ℕ → ℕ → Bool
 ends_unpadded s from to = eqb to (from + 1) || not (eqb (get_or s (to - 1) 0) 0)
 
--- what reading a varint finds: its value, the place after it, and whether it is unpadded
-pub record UvarintRead : Type 0 where
-  pub value : ℕ
-  pub next : ℕ
-  pub unpadded : Bool
-
--- reading the varint that begins at a place of s, past its end or not
-unfoldable pub read_uvarint : List ℕ → ℕ → Outcome UvarintRead
+-- reading the varint that begins at a place of s, past its end or not: its value, the place after it, and whether it is unpadded
+unfoldable pub read_uvarint : List ℕ → ℕ → Outcome Uvarint
 read_uvarint s at = do
   next ← uvarint_end at 10 (drop at s) at
   ok (record { value = uvarint_value s at next; next = next; unpadded = ends_unpadded s at next })
 
 -- the same where it was read before
-unfoldable pub uvarint_at : List ℕ → ℕ → UvarintRead
+unfoldable pub uvarint_at : List ℕ → ℕ → Uvarint
 uvarint_at s at = value_or (record { value = 0; next = 0; unpadded = true }) (read_uvarint s at)
 
 -- ---- a part of a chunk: where it ends, and the start of the first padded varint so far, which is 25's offset
 
-pub record Extent : Type 0 where
-  pub end : ℕ
-  pub padded : Padded
-
 -- the first padded varint, when the one at `at` is read too
-abbrev pub first_padded : Padded → ℕ → Bool → Padded
-first_padded (At first) at unpadded = At first
-first_padded Nowhere at true = Nowhere
-first_padded Nowhere at false = At at
+abbrev pub first_padded : Option ℕ → ℕ → Bool → Option ℕ
+first_padded (Some first) at unpadded = Some first
+first_padded None at true = None
+first_padded None at false = Some at
 
 -- n varints in a row: a walk from `at` on
-unfoldable pub validate_uvarints : List ℕ → ℕ → ℕ → Padded → Outcome Extent
+unfoldable pub validate_uvarints : List ℕ → ℕ → ℕ → Option ℕ → Outcome Extent
 validate_uvarints s at zero padded = ok (record { end = at; padded = padded })
 validate_uvarints s at (suc n) padded = do
   v ← read_uvarint s at

@@ -1,9 +1,9 @@
 -- 2. Varint (01, "The chunk"): "one signed varint each."
-use Rattle.std.specs.Prelude.{ℕ, List, [], ◌∷◌, ◌++◌, map, ℤ}
+use Rattle.std.specs.Prelude.{ℕ, List, [], ◌∷◌, ◌++◌, map, ℤ, Option}
 use Rattle.format.specs.Outcome.{Outcome}
 use Rattle.format.specs.Keys.{unzigzag}
-use Rattle.format.specs.Varint.{Extent, varint_bytes, validate_uvarints, uvarint_values}
-use Rattle.format.specs.declared.Padded.{Padded}
+use Rattle.format.specs.declared.Extent.{Extent}
+use Rattle.format.specs.Varint.{varint_bytes, validate_uvarints, uvarint_values}
 
 -- what writing stores after the header
 unfoldable pub varint_body : List ℤ → List ℕ
@@ -11,7 +11,7 @@ varint_body [] = []
 varint_body (v ∷ vs) = varint_bytes v ++ varint_body vs
 
 -- reading, from the body's start on: `count` varints
-unfoldable pub validate_varint_body : List ℕ → ℕ → ℕ → Padded → Outcome Extent
+unfoldable pub validate_varint_body : List ℕ → ℕ → ℕ → Option ℕ → Outcome Extent
 validate_varint_body s start count padded = validate_uvarints s start count padded
 
 -- the values of a body that was read

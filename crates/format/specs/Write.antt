@@ -6,9 +6,8 @@ use Rattle.format.specs.Encodings.{encoding_of, within, max_chunk_elements}
 use Rattle.format.specs.Answers.{stored_answer, buffer_after}
 use Rattle.format.specs.Distinct.{too_many_distinct, scratch_check, collected}
 use Rattle.format.specs.Chunk.{chunk_of}
-use Rattle.format.specs.declared.Answer.{Answer}
-use Rattle.format.specs.declared.Encoding.{Encoding}
-use Rattle.format.specs.declared.Encoding.TheVariants.{Plain, Varint, BitPacked, FrameOfReference, RunLength, Dictionary, DeltaBinaryPacked}
+use Rattle.format.specs.declared.encoding.Encoding.{Encoding}
+use Rattle.format.specs.declared.encoding.Encoding.TheVariants.{Plain, Varint, BitPacked, FrameOfReference, RunLength, Dictionary, DeltaBinaryPacked}
 
 -- "For Dictionary": `this` is asked, or done, for Dictionary, and `other` for every other encoding
 abbrev pub for_dictionary {ℓ} : {A : Type ℓ} → A → A → Encoding → A
@@ -39,7 +38,7 @@ write_outcome number column room space = do
   ok (chunk_of encoding column)
 
 -- THE ANSWER of writing the column in the encoding with that number: accepted, with the count of bytes
-unfoldable pub write_answer : ℕ → List ℤ → ℕ → ℕ → Answer
+unfoldable pub write_answer : ℕ → List ℤ → ℕ → ℕ → Outcome ℕ
 write_answer number column room space = stored_answer (write_outcome number column room space)
 
 -- THE OUTPUT after that. "Accepted: .. in writing the chunk, fill the buffer's front; the rest is untouched."

@@ -1,25 +1,23 @@
 // The types of the format's answers (document 01, "Questions at the counter" and "Statistics, estimates, plan"), the numbers
-// of its refusals, and its limits. There is no function here: what the calls answer is defined in specs/, over these types.
+// of its refusals, and its limits. What the calls answer is defined in specs/, over these types.
 
 #![tactic(auto)]
 
+ghost use Rattle.std.specs.Prelude.{◌≡◌};
+ghost use Rattle.format.specs.Estimates.{is_exact, refused_estimates};
+ghost use Rattle.format.specs.Statistics.{cardinality_count};
+ghost use Rattle.format.specs.declared.Cardinality.TheVariants.{Exact};
+
+pub mod encoding;
 pub mod limits;
-pub mod refusal;
+pub mod refusals;
 
-// The seven integer encodings, in the order of their ids, 1 to 7.
-#[derive(Clone, Copy)]
-pub enum Encoding {
-    Plain,
-    Varint,
-    BitPacked,
-    FrameOfReference,
-    RunLength,
-    Dictionary,
-    DeltaBinaryPacked,
-}
+pub use encoding::Encoding;
+pub use refusals::{Kind, Refusal, UnknownNumber};
 
-#[derive(Clone, Copy)]
+#[derive(Clone, Copy, Debug, Default, PartialEq, Eq)]
 pub enum Sortedness {
+    #[default]
     Constant,
     Ascending,
     Descending,
@@ -27,72 +25,82 @@ pub enum Sortedness {
 }
 
 // The number of distinct values, or a number that there are at least.
-#[derive(Clone, Copy)]
+#[derive(Clone, Copy, Debug, PartialEq, Eq)]
 pub enum Cardinality {
     Exact(usize),
     AtLeast(usize),
 }
 
-#[derive(Clone, Copy)]
+impl Cardinality {
+    // The number of distinct values, or the number that there are at least.
+    pub fn count(self) -> usize
+        ensures { result ≡ cardinality_count self }
+    {
+        match self {
+            Cardinality::Exact(n) | Cardinality::AtLeast(n) => n,
+        }
+    }
+
+    pub fn is_exact(self) -> bool
+        ensures { result ≡ is_exact self }
+    {
+        matches!(self, Cardinality::Exact(_))
+    }
+}
+
+impl Default for Cardinality {
+    ghost is_default = { λ c. c ≡ Exact 0 };
+
+    fn default() -> Cardinality {
+        Cardinality::Exact(0)
+    }
+}
+
+#[derive(Clone, Copy, Debug, Default, PartialEq, Eq)]
 pub enum PlanReason {
+    #[default]
     Empty,
     CompressionDisabled,
     SmallestEstimate,
     GainBelowThreshold,
 }
 
-// Accepted, with the count of values or bytes stored; or refused, with a number and an offset.
-#[derive(Clone, Copy)]
-pub enum Answer {
-    Accepted(usize),
-    Refused(u32, usize),
-}
-
-// An unsigned varint that was read: its value, the place after it, and whether it is unpadded, which strict reading asks;
-// or refused, with a number and an offset.
-#[derive(Clone, Copy)]
-pub enum UvarintAnswer {
-    Read(u64, usize, bool),
-    Malformed(u32, usize),
+// An unsigned varint that was read: its value, the place after it, and whether it is unpadded, which strict reading asks.
+#[derive(Clone, Copy, Debug, PartialEq, Eq)]
+pub struct Uvarint {
+    pub value: u64,
+    pub next: usize,
+    pub unpadded: bool,
 }
 
 // The same for a signed varint.
-#[derive(Clone, Copy)]
-pub enum VarintAnswer {
-    Read(i64, usize, bool),
-    Malformed(u32, usize),
+#[derive(Clone, Copy, Debug, PartialEq, Eq)]
+pub struct Varint {
+    pub value: i64,
+    pub next: usize,
+    pub unpadded: bool,
 }
 
-// The start of the first padded varint that was read so far, which strict reading asks for, if there is one.
-#[derive(Clone, Copy)]
-pub enum Padded {
-    Nowhere,
-    At(usize),
+// A header that was read: the id, the count, the start of the body, and the start of the first padded varint, which strict
+// reading asks for, if there is one.
+#[derive(Clone, Copy, Debug, PartialEq, Eq)]
+pub struct Header {
+    pub id: u8,
+    pub count: usize,
+    pub start: usize,
+    pub padded: Option<usize>,
 }
 
-// The encoding with a number, or in a chunk's first byte; or refused.
-#[derive(Clone, Copy)]
-pub enum EncodingAnswer {
-    Known(Encoding),
-    Unknown(u32, usize),
-}
-
-// A header that was read: the count, the start of the body, the first padded varint; or refused.
-#[derive(Clone, Copy)]
-pub enum HeaderAnswer {
-    Found(usize, usize, Padded),
-    Malformed(u32, usize),
-}
-
-// A part of a chunk that was read: where it ends, the first padded varint up to there; or refused.
-#[derive(Clone, Copy)]
-pub enum ExtentAnswer {
-    Ends(usize, Padded),
-    Malformed(u32, usize),
+// A part of a chunk that was read: where it ends, and the first padded varint up to there.
+#[derive(Clone, Copy, Debug, PartialEq, Eq)]
+pub struct Extent {
+    pub end: usize,
+    pub padded: Option<usize>,
 }
 
 // The fields of the Rust's `IntegerStats` but the distinct values, which are handed back as a part of the scratch.
-#[derive(Clone, Copy)]
+// The default is the record of the empty column, which is a refused call's too.
+#[derive(Clone, Copy, Debug, Default, PartialEq, Eq)]
 pub struct IntegerStats {
     pub count: usize,
     pub first: i64,
@@ -110,15 +118,24 @@ pub struct IntegerStats {
     pub delta_span: u64,
 }
 
-// The seven candidate lengths in the order of the ids, and which of them are available.
-#[derive(Clone, Copy)]
+// The seven candidate lengths in the order of the ids, none where a candidate is not available.
+#[derive(Clone, Copy, Debug, PartialEq, Eq)]
 pub struct SizeEstimates {
-    pub lengths: [usize; 7],
-    pub available: [bool; 7],
+    pub lengths: [Option<usize>; 7],
 }
 
-// The Rust's `EncodingPlan`, with the run density, the ratio and the candidates beside it.
-#[derive(Clone, Copy)]
+// Those of a refused call.
+#[tactic(auto, unfolding(crate::specs::Estimates::refused_estimates))]
+impl Default for SizeEstimates {
+    ghost is_default = { λ estimates. estimates ≡ refused_estimates };
+
+    fn default() -> SizeEstimates {
+        SizeEstimates { lengths: [None; 7] }
+    }
+}
+
+// The Rust's `EncodingPlan`, with the run density, the ratio and the candidates beside it. The default is a refused call's.
+#[derive(Clone, Copy, Debug, Default)]
 pub struct EncodingPlan {
     pub encoding: Encoding,
     pub estimated_bytes: usize,
@@ -127,23 +144,4 @@ pub struct EncodingPlan {
     pub run_density: f64,
     pub estimated_ratio: f64,
     pub estimates: SizeEstimates,
-}
-
-// What a call for statistics, for estimates or for a plan gives: its answer, and the record.
-#[derive(Clone, Copy)]
-pub struct StatsAnswer {
-    pub answer: Answer,
-    pub stats: IntegerStats,
-}
-
-#[derive(Clone, Copy)]
-pub struct EstimatesAnswer {
-    pub answer: Answer,
-    pub estimates: SizeEstimates,
-}
-
-#[derive(Clone, Copy)]
-pub struct PlanAnswer {
-    pub answer: Answer,
-    pub plan: EncodingPlan,
 }

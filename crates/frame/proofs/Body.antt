@@ -2,31 +2,37 @@
 -- those of a packed body after the first.
 use mathlib.Core.Path.{◌≡◌, sym, ap, ◌∙◌}
 use mathlib.Core.List.{List, ◌∷◌, ◌++◌, map}
-use Prim.Native.Nat.{ℕ, ◌+◌, ◌-◌, ◌≤◌, ◌<◌}
+use Prim.Native.Nat.{ℕ, ◌+◌, ◌-◌, ◌^◌, ◌≤◌, ◌<◌}
 use native.Mathlib.Numerals.{add-one}
 use native.Mathlib.Omega.{arith}
 use lib.IntN.{ℤ}
 use lib.Dec.{leb}
 use lib.ListN.{length, get_or, set, length-append, length-map}
 use lib.Seq.{sets, length-sets}
-use borrow.Author.Tests.{lt-ltb, le-leb, lt-leb, leb-true}
-use Rattle.format.specs.Outcome.{refused, ok, check}
+use borrow.Author.Tests.{lt-ltb, le-leb, leb-true}
+use Rattle.format.specs.Outcome.{check}
+use Rattle.format.specs.Answers.{count_of}
+use Rattle.format.specs.Standalone.{packed_len_answer}
 use Rattle.format.specs.Encodings.{max_chunk_elements}
 use Rattle.format.specs.Keys.{gap, key_bytes}
-use Rattle.format.specs.Varint.{Extent}
 use Rattle.format.specs.Packing.{packed_len, packed, width_at, packed_end}
 use Rattle.format.specs.BitPacked.{packed_body}
 use Rattle.format.specs.Frame.{frame_body, validate_frame}
 use Rattle.format.specs.Chunk.{body_of, validate_body}
 use Rattle.format.specs.Parts.{packed_extent}
-use Rattle.format.specs.declared.Encoding.TheVariants.{FrameOfReference}
-use Rattle.format.specs.declared.Padded.{Padded}
+use Rattle.format.specs.declared.encoding.Encoding.TheVariants.{FrameOfReference}
+use Rattle.format.specs.declared.Header.{Header}
+use Rattle.std.specs.Prelude.{Option}
 use Rattle.format.proofs.Codecs.Outcome.{both-passed, check-passed}
 use Rattle.format.proofs.Lengths.Parts.{length-packed_body}
 use Rattle.format.proofs.Numbers.Keys.{length-key_bytes}
 use Rattle.format.proofs.Numbers.Stores.{sets-append}
 use Rattle.places.specs.Places.{fitting, laid, laid_end}
 use Rattle.places.proofs.Placing.{bytes-laid}
+use Rattle.format.proofs.Numbers.Packing.{packed_len-most}
+use Rattle.format.proofs.Numbers.Widths.{width-le}
+use Rattle.places.proofs.Blocks.{packed-counted}
+use Rattle.codec.specs.Valid.{Valid}
 use Rattle.places.specs.Packed.{Inside}
 use Rattle.codec.proofs.Settling.{passed-inside}
 use Rattle.frame.specs.declared.writing.Fit.{Fit}
@@ -56,30 +62,37 @@ module _ (column : List ℤ) {r : Fit} (f : Fitted column r) where
   unfolding body_of frame_body packed_body
   body_is = rw (f.base, f.widest)
 
+  pub narrow : r.width ≤ 64
+  narrow = rw f.widest (width-le _)
+
   pub body-length : length (body_of FrameOfReference column) ≡ 9 + packed_len (length column) r.width
   unfolding body_of frame_body
   body-length = rw f.widest (simp (length-append, length-key_bytes, length-packed_body, length-map) (omega arith))
 
+  -- its packed bytes, and that they are few
+  module _ {n bytes : ℕ} (same : n ≡ length column) (few : n ≤ max_chunk_elements) (counted : bytes ≡ count_of (packed_len_answer n r.width)) where
+    pub body-measured : 9 + bytes ≡ length (body_of FrameOfReference column)
+    body-measured = omega (arith, counted, packed-counted n r.width few narrow, ap (λ (k : ℕ). packed_len k r.width) same, body-length)
+
+    pub body-short : bytes < 2 ^ 31
+    body-short = omega (arith, counted, packed-counted n r.width few narrow, packed_len-most n r.width narrow)
+
 -- ---- reading
 
-module _ (s : List ℕ) (start count : ℕ) (padded : Padded) where
-  pub frame-cut : length s - start < 9 → validate_frame s start count padded ≡ refused 11 start
-  unfolding validate_frame
-  frame-cut h = rw (lt-leb (start + 9) (length s) (omega arith))
+-- after the nine bytes the questions are those of a packed body
+pub frame-asked :
+    (s : List ℕ) (start count : ℕ) (padded : Option ℕ) → count ≤ max_chunk_elements → start + 9 ≤ length s
+    → packed_extent s (start + 8) count padded ≡ validate_body FrameOfReference s start count padded
+unfolding packed_extent width_at validate_body validate_frame
+frame-asked s start count padded few nine =
+    let e : start + 8 + 1 ≡ start + 9 = omega arith in
+    rw (le-leb count max_chunk_elements few, lt-ltb (start + 8) (length s) (omega arith), le-leb (start + 9) (length s) nine, e)
 
-  module _ (few : count ≤ max_chunk_elements) where
-    pub frame-asked : 9 ≤ length s - start → packed_extent s (start + 8) count padded ≡ validate_frame s start count padded
-    unfolding packed_extent width_at validate_frame
-    frame-asked h =
-        let nine : start + 9 ≤ length s = omega arith in
-        let e : start + 8 + 1 ≡ start + 9 = omega arith in
-        rw (le-leb count max_chunk_elements few, lt-ltb (start + 8) (length s) (omega arith), le-leb (start + 9) (length s) nine, e)
-
-    pub body-inside : {x : Extent} → validate_body FrameOfReference s start count padded ≡ ok x → Inside s (start + 8) count
-    unfolding validate_body validate_frame width_at
-    body-inside h =
-        both-passed (check (leb (start + 9) (length s)) 11 start) _ h λ _ nine h₁.
-        both-passed (packed_end s (start + 9) (get_or s (start + 8) 0) count) _ h₁ λ end rest h₂.
-        let there : start + 9 ≤ length s = leb-true (start + 9) (length s) (check-passed _ 11 start nine) in
-        let e : start + 9 ≡ start + 8 + 1 = omega arith in
-        passed-inside few (rw (lt-ltb (start + 8) (length s) (omega arith))) (rw e at rest)
+pub body-inside : {s : List ℕ} {h : Header} → Valid FrameOfReference s h → Inside s (h.start + 8) h.count
+unfolding validate_body validate_frame width_at
+body-inside {s} {h} v =
+    both-passed (check (leb (h.start + 9) (length s)) 11 h.start) _ v.passed λ _ nine h₁.
+    both-passed (packed_end s (h.start + 9) (get_or s (h.start + 8) 0) h.count) _ h₁ λ end rest h₂.
+    let there : h.start + 9 ≤ length s = leb-true (h.start + 9) (length s) (check-passed _ 11 h.start nine) in
+    let e : h.start + 9 ≡ h.start + 8 + 1 = omega arith in
+    passed-inside v.few (rw (lt-ltb (h.start + 8) (length s) (omega arith))) (rw e at rest)

@@ -1,12 +1,15 @@
 -- A loop that finds the least and the greatest value of a column: the least of what was found and what is left is the whole's, and so is the greatest (`Bounded`).
 -- Every value is a key, so the largest difference from the least is that of the greatest.
 use mathlib.Core.Path.{◌≡◌, refl, sym, ap, ap₂, ◌∙◌}
+use mathlib.Core.Bool.{Bool, true, false}
 use mathlib.Core.List.{List, [], ◌∷◌, ◌++◌, map}
-use Prim.Native.Nat.{ℕ, ◌+◌, ◌≤◌, ◌<◌}
+use Prim.Native.Nat.{ℕ, ◌+◌, ◌≤◌, ◌<◌, zero-le}
 use native.Mathlib.Numerals.{add-one}
 use native.Mathlib.Omega.{arith}
 use lib.Count.{count_leading_zeros}
 use lib.IntN.{ℤ, pos}
+use lib.Signed.{lt_z}
+use Rattle.std.specs.Prelude.{cond}
 use lib.ListN.{length, get_or, take, drop, drop_of_length-le}
 use lib.Seq.{drop-cons, take-suc, take_all}
 use Rattle.format.specs.Keys.{Key, gap, lesser, greater}
@@ -32,10 +35,29 @@ unfolding least largest width count_leading_zeros
 fitted_none {column = []} e = record { base = refl; widest = refl }
 fitted_none {column = v ∷ vs} e = absurd (omega arith)
 
-pub bounded-one : (column : List ℤ) → 0 < length column → Key (get_or column 0 (pos 0)) → Bounded column (get_or column 0 (pos 0)) (get_or column 0 (pos 0)) 1
-unfolding least greatest
-bounded-one [] h k = absurd (omega arith)
-bounded-one (v ∷ vs) h k = record { passed = h; below = refl; above = refl; keys = all_more k all_none }
+either : (b : Bool) (v : ℤ) → cond b v v ≡ v
+either true v = refl
+either false v = refl
+
+lesser-same : (v : ℤ) → lesser v v ≡ v
+unfolding lesser
+lesser-same v = either (lt_z v v) v
+
+greater-same : (v : ℤ) → greater v v ≡ v
+unfolding greater
+greater-same v = either (lt_z v v) v
+
+-- the first value is the least and the greatest of none
+pub bounded_none : (column : List ℤ) → 0 < length column → Bounded column (get_or column 0 (pos 0)) (get_or column 0 (pos 0)) 0
+unfolding least greatest least_from greatest_from
+bounded_none [] h = absurd (omega arith)
+bounded_none (v ∷ vs) h =
+    record {
+      passed = zero-le;
+      below = ap (λ (z : ℤ). least_from z vs) (lesser-same v);
+      above = ap (λ (z : ℤ). greatest_from z vs) (greater-same v);
+      keys = all_none;
+    }
 
 module _ {column : List ℤ} {low high : ℤ} {i : ℕ} (b : Bounded column low high i) where
   pub bounded-more : i < length column → Key (get_or column i (pos 0)) → {least greatest : ℤ}

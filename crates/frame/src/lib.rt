@@ -2,53 +2,62 @@
 // Rust's `FrameOfReferenceCodec`).
 #![tactic(auto)]
 
-ghost use Rattle.std.specs.Prelude.{◌≡◌, length};
-ghost use Rattle.format.specs.Header.{named};
-ghost use Rattle.format.specs.Read.{read_answer, read_column};
-ghost use Rattle.format.specs.Write.{write_answer, write_output};
+ghost use Rattle.std.specs.Prelude.{refl};
+ghost use Rattle.format.specs.declared.encoding.Encoding.TheVariants as Encodings;
+ghost use Rattle.frame.specs.Fit.{Fitted};
 
-use codec::body::settle;
-use codec::header::{header_len, put_header, read_header, refusal_of_header};
-use format::limits::MAX_CHUNK_ELEMENTS;
-use format::refusal::{BUFFER_TOO_SHORT, COLUMN_ABOVE_LIMIT};
-use format::{Answer, Encoding, HeaderAnswer};
+use codec::body::settle_packed;
+use codec::chunk::{Codec, Encoder, lacking_for};
+use format::{Encoding, Extent, Header, Kind, Refusal};
 use places::block::packed_bytes;
+use writing::Fit;
 
+pub(crate) mod differences;
 pub(crate) mod reading;
-pub(crate) mod writing;
+pub mod writing;
 
-// Writes the column's chunk to the front of `out`.
-pub fn encode(column: &[i64], out: &mut [u8]) -> Answer
-    ensures value { result ≡ write_answer 4 column.now 0 (length out.old) }
-    ensures out_after { out.new ≡ write_output 4 column.now 0 out.old }
-{
-    if column.len() > MAX_CHUNK_ELEMENTS {
-        return Answer::Refused(COLUMN_ABOVE_LIMIT, 0);
+pub struct FrameOfReference;
+
+impl Codec for FrameOfReference {
+    ghost ENCODING = { Encodings.FrameOfReference };
+
+    const ENCODING: Encoding = Encoding::FrameOfReference;
+
+    // The nine bytes there? Then the questions of a packed body.
+    #[tactic(auto, unfolding(format::specs::Chunk::validate_body, format::specs::Frame::validate_frame))]
+    fn settle_body(chunk: &[u8], strict: bool, header: Header) -> Result<Extent, Refusal> {
+        if chunk.len() < header.start + 9 {
+            return Err(Kind::FrameCut.at(header.start));
+        }
+        settle_packed(chunk, header.start + 8, header.count, header.padded)
     }
-    let fit = writing::fit_of(column);
-    let needed = header_len(column.len()) + 9 + packed_bytes(column.len(), fit.width);
-    if out.len() < needed {
-        return Answer::Refused(BUFFER_TOO_SHORT, needed);
+
+    fn fill(chunk: &[u8], header: Header, column: &mut [i64]) {
+        reading::fill(chunk, header, column)
     }
-    let at = put_header(Encoding::FrameOfReference, column.len(), out);
-    writing::store(column, fit.least, fit.width, out, at);
-    Answer::Accepted(needed)
 }
 
-// Reads a chunk to the front of `column`.
-pub fn decode(chunk: &[u8], strict: bool, column: &mut [i64]) -> Answer
-    ensures value { result ≡ read_answer strict (named 4) chunk.now (length column.old) }
-    ensures column_after { column.new ≡ read_column strict (named 4) chunk.now column.old }
-{
-    let header = read_header(chunk, 4);
-    let HeaderAnswer::Found(count, start, padded) = header else {
-        return refusal_of_header(header);
-    };
-    let body = reading::settle_body(chunk, start, count, padded);
-    let answer = settle(chunk, strict, count, column.len(), body);
-    let Answer::Accepted(n) = answer else {
-        return answer;
-    };
-    reading::fill(chunk, start, n, column);
-    answer
+impl Encoder for FrameOfReference {
+    type Measured = Fit;
+
+    ghost suits = { λ column fit. Fitted column fit };
+
+    ghost scratchless = { λ k. refl };
+
+    fn measure(column: &[i64]) -> Fit {
+        writing::fit_of(column)
+    }
+
+    fn lacking(column: &[i64], fit: Fit, space: usize) -> Option<usize> {
+        lacking_for(
+            column.len(),
+            9 + packed_bytes(column.len(), fit.width),
+            space,
+        )
+    }
+
+    fn store(column: &[i64], fit: Fit, out: &mut [u8], at: usize) -> usize {
+        writing::store(column, fit, out, at);
+        at + 9 + packed_bytes(column.len(), fit.width)
+    }
 }

@@ -19,10 +19,9 @@ use Rattle.format.specs.Distinct.{too_many_distinct, scratch_check}
 use Rattle.format.specs.Read.{validate, strict_checks, read_outcome, read_answer, read_column}
 use Rattle.format.specs.ThirdDemand.{NamedFor, unnamed-reading, named-reading}
 use Rattle.format.specs.Write.{for_dictionary, write_checks, write_outcome, write_answer, write_output}
-use Rattle.format.specs.declared.Answer.{Answer}
-use Rattle.format.specs.declared.Answer.TheVariants.{Accepted, Refused}
-use Rattle.format.specs.declared.Encoding.{Encoding}
-use Rattle.format.specs.declared.Padded.TheVariants.{Nowhere}
+use Rattle.format.specs.declared.encoding.Encoding.{Encoding}
+use Rattle.std.specs.Prelude.{Option, None}
+use Rattle.std.specs.Bool.{then_some}
 use Rattle.format.proofs.Codecs.Chunk.{chunk_written, validate-back, read_answer-back, read_column-back}
 use Rattle.format.proofs.Codecs.Outcome.{both-passed, check-passed}
 use Rattle.integer.proofs.Numbered.{id-of}
@@ -60,7 +59,7 @@ module _ (number : ℕ) (column : List ℤ) (room space : ℕ) where
 -- ---- reading a column's chunk into a buffer that may be too short
 
 module _ (e : Encoding) (strict : Bool) {naming : Naming} (column : List ℤ) (ks : Keys column) (few : length column ≤ max_chunk_elements) (r : NamedFor e naming) where
-  strictly : (b : Bool) (s : List ℕ) → strict_checks b s (record { end = length s; padded = Nowhere }) ≡ ok tt
+  strictly : (b : Bool) (s : List ℕ) → strict_checks b s (record { end = length s; padded = None }) ≡ ok tt
   unfolding strict_checks
   strictly true s = rw (eq-eqb (length s) (length s) refl)
   strictly false s = refl
@@ -93,8 +92,8 @@ module _ (e : Encoding) (strict : Bool) {naming : Naming} (column : List ℤ) (k
 
 module _ (number : ℕ) (column : List ℤ) (room : ℕ) (output : List ℕ) (places : List ℤ) where
   -- writing was refused
-  pub back-refused : {n k : ℕ} → write_answer number column room (length output) ≡ Refused n k
-      → (Refused n k ≡ stored_answer (back_outcome number column room (length output) (length places)))
+  pub back-refused : {n k : ℕ} → write_answer number column room (length output) ≡ refused n k
+      → (refused n k ≡ stored_answer (back_outcome number column room (length output) (length places)))
       × (places ≡ buffer_after (back_outcome number column room (length output) (length places)) places)
   unfolding write_answer back_outcome
   back-refused {n} {k} h = go (write_outcome number column room (length output)) h
@@ -102,18 +101,18 @@ module _ (number : ℕ) (column : List ℤ) (room : ℕ) (output : List ℕ) (pl
       rest : List ℕ → Outcome (List ℤ)
       rest _ = check (leb (length column) (length places)) 20 (length column) >>= λ _. ok column
 
-      go : (o : Outcome (List ℕ)) → stored_answer o ≡ Refused n k → (Refused n k ≡ stored_answer (o >>= rest)) × (places ≡ buffer_after (o >>= rest) places)
+      go : (o : Outcome (List ℕ)) → stored_answer o ≡ refused n k → (refused n k ≡ stored_answer (o >>= rest)) × (places ≡ buffer_after (o >>= rest) places)
       go (refused a b) p = (sym p, refl)
       go (ok bytes) p = let z : ◌≡◌ {A = ℕ} 0 1 = cc in absurd (omega arith)
 
-  module _ {n : ℕ} (accepted : write_answer number column room (length output) ≡ Accepted n) where
+  module _ {n : ℕ} (accepted : write_answer number column room (length output) ≡ ok n) where
     -- the output's front is the chunk
     pub back-front : (bytes : List ℕ) × (write_outcome number column room (length output) ≡ ok bytes) × (n ≡ length bytes)
         × (n ≤ length (write_output number column room output)) × (take n (write_output number column room output) ≡ bytes)
     unfolding write_answer write_output stored
     back-front = go (write_outcome number column room (length output)) refl accepted
       where
-        go : (o : Outcome (List ℕ)) → write_outcome number column room (length output) ≡ o → stored_answer o ≡ Accepted n
+        go : (o : Outcome (List ℕ)) → write_outcome number column room (length output) ≡ o → stored_answer o ≡ ok n
             → (bytes : List ℕ) × (o ≡ ok bytes) × (n ≡ length bytes) × (n ≤ length (buffer_after o output)) × (take n (buffer_after o output) ≡ bytes)
         go (refused a b) p q = let z : ◌≡◌ {A = ℕ} 0 1 = cc in absurd (omega arith)
         go (ok bytes) p q =
@@ -122,19 +121,19 @@ module _ (number : ℕ) (column : List ℤ) (room : ℕ) (output : List ℕ) (pl
 
     -- what reading that front answers and leaves
     pub back_read :
-        Keys column → (name strict : Bool) {after : List ℕ} {answer : Answer} {places-after : List ℤ} → after ≡ write_output number column room output
-        → (answer ≡ read_answer strict (naming_of name number) (take n after) (length places))
-        × (places-after ≡ read_column strict (naming_of name number) (take n after) places)
+        Keys column → {name : Option ℕ} (naming strict : Bool) → name ≡ then_some naming number → {after : List ℕ} {answer : Outcome ℕ} {places-after : List ℤ} → after ≡ write_output number column room output
+        → (answer ≡ read_answer strict (naming_of name) (take n after) (length places))
+        × (places-after ≡ read_column strict (naming_of name) (take n after) places)
         → (answer ≡ stored_answer (back_outcome number column room (length output) (length places)))
         × (places-after ≡ buffer_after (back_outcome number column room (length output) (length places)) places)
     unfolding back_outcome
-    back_read ks name strict is done =
+    back_read ks naming strict named is done =
         let f = back-front in
         let c = chunk-found number column room (length output) f.1 in
-        let all = chunk_read c.encoding strict column ks c.few (reading name c.numbered) places in
+        let all = chunk_read c.encoding strict column ks c.few (rw named (reading naming c.numbered)) places in
         let read = rw (is, f.4, c.bytes-are) at done in
         rw f.1 (read.0 ∙ all.0, read.1 ∙ all.1)
       where
-        reading : (b : Bool) {e : Encoding} → number ≡ id_of e → NamedFor e (naming_of b number)
+        reading : (b : Bool) {e : Encoding} → number ≡ id_of e → NamedFor e (naming_of (then_some b number))
         reading true p = rw p named-reading
         reading false p = unnamed-reading

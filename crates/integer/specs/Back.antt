@@ -1,13 +1,9 @@
 -- Writing and then reading (01, "Statistics, estimates, plan": "Writing gets the planned column and the plan's encoding; reading, strict or not, named by that encoding or not,
 -- gets the bytes that writing stored. Reading gives the column back if it is accepted with the column's count and the buffer's front holds its keys.").
-use Rattle.std.specs.Prelude.{ℕ, Bool, true, false, List, ℤ, leb, length}
+use Rattle.std.specs.Prelude.{ℕ, List, ℤ, Option, Some, None, leb, length}
 use Rattle.format.specs.Outcome.{Outcome, ok, check, ◌>>=◌}
 use Rattle.format.specs.Header.{Naming, unnamed, named}
 use Rattle.format.specs.Write.{write_outcome}
-use Rattle.format.specs.declared.Answer.{Answer}
-use Rattle.format.specs.declared.Answer.TheVariants.{Refused}
-use Rattle.format.specs.declared.EncodingAnswer.{EncodingAnswer}
-use Rattle.format.specs.declared.EncodingAnswer.TheVariants.{Known, Unknown}
 
 -- the column itself, where writing is not refused and the buffer has `places` enough: else 20, offset the length needed
 unfoldable pub back_outcome : ℕ → List ℤ → ℕ → ℕ → ℕ → Outcome (List ℤ)
@@ -17,11 +13,6 @@ back_outcome number column room space places = do
   ok column
 
 -- "named by that encoding or not"
-abbrev pub naming_of : Bool → ℕ → Naming
-naming_of true number = named number
-naming_of false number = unnamed
-
--- a refused number as the call's answer; a known encoding is no refusal, and it is not asked of one
-abbrev pub unknown_answer : EncodingAnswer → Answer
-unknown_answer (Known encoding) = Refused 0 0
-unknown_answer (Unknown number offset) = Refused number offset
+abbrev pub naming_of : Option ℕ → Naming
+naming_of (Some number) = named number
+naming_of None = unnamed

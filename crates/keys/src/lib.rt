@@ -1,20 +1,15 @@
 // Keys in a row: Varint's body has them alone, RunLength's each with a length after it. One walk fills a column from both, since
-// the compiler inlines the finding of a key, which is long, only where it is called once, and is half as fast where it does not.
+// the compiler inlines the finding of a key, which is long, only where it is called once. Tried: `lengths` as a const parameter, whose
+// two instances call it twice, took 1.2 to 1.4 times as long for keys alone and up to 2.1 times for runs.
 #![tactic(auto)]
 
-ghost use Rattle.std.specs.Prelude.{◌≡◌, ◌+◌, ◌≤◌, ◌<◌, min, length, replicate};
+ghost use Rattle.std.specs.Prelude.{◌≡◌, ◌+◌, ◌≤◌, ◌<◌, length, replicate};
 ghost use Rattle.std.proofs.lemmas.List.Edits.{sets};
 ghost use Rattle.varint.specs.Finding.{found_at};
 ghost use Rattle.keys.specs.Rows.{times_after, filled_from};
 
 use format::limits::MAX_CHUNK_ELEMENTS;
 use varint::find::{Found, find_any, find_uvarint};
-
-fn wide(b: u8) -> u64
-    ensures { (result ≡ b) × (result < 256) }
-{
-    b as u64
-}
 
 // A length: mostly of one byte, which needs no call.
 fn find_length(chunk: &[u8], at: usize) -> Found
@@ -24,7 +19,7 @@ fn find_length(chunk: &[u8], at: usize) -> Found
         let b = chunk[at];
         if b < 128 {
             return Found {
-                value: wide(b),
+                value: u64::from(b),
                 next: at + 1,
             };
         }
@@ -42,17 +37,8 @@ fn times_after(chunk: &[u8], at: usize, lengths: bool) -> Found
     Found { value: 1, next: at }
 }
 
-// How many of so many copies have room.
-fn copies(times: u64, room: usize) -> usize
-    ensures { result ≡ min times room }
-{
-    if times < room as u64 {
-        return times as usize;
-    }
-    room
-}
-
-// Stores a key `times` times from `at` on. Mostly that is once.
+// Stores a key `times` times from `at` on. Mostly that is once. Tried: `fill`, with which the compiler makes no loop of its own for
+// keys without lengths, so that these cost a tenth more and short runs a half.
 fn fill_run(column: &mut [i64], at: usize, times: usize, key: i64)
     requires { at + times ≤ length column.old }
     ensures { column.new ≡ sets column.old at (replicate times key) }
@@ -68,6 +54,7 @@ fn fill_run(column: &mut [i64], at: usize, times: usize, key: i64)
 
 // Fills the front of a column from n keys in a row, with lengths or without, as far as there is room. A chunk has no more than
 // 2^24 keys: asked of more, it stores nothing, so that no number makes the walk longer.
+#[tactic(auto, using(crate::proofs::Filling::filling_refused, crate::proofs::Filling::filling_room, crate::proofs::Filling::filling_done))]
 pub fn fill_keys(chunk: &[u8], from: usize, n: usize, lengths: bool, column: &mut [i64])
     ensures { column.new ≡ filled_from lengths chunk.now from n column.old }
 {
@@ -79,7 +66,7 @@ pub fn fill_keys(chunk: &[u8], from: usize, n: usize, lengths: bool, column: &mu
     for _ in 0..n {
         let key = find_uvarint(chunk, next);
         let times = times_after(chunk, key.next, lengths);
-        let count = copies(times.value, column.len() - at);
+        let count = times.value.min((column.len() - at) as u64) as usize;
         fill_run(column, at, count, number::zigzag_decode(key.value));
         at += count;
         next = times.next;

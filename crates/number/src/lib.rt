@@ -7,84 +7,84 @@ ghost use Rattle.format.specs.Keys.{residue, as_signed, wrapping_add, delta, zig
 ghost use Rattle.format.specs.Keys as Keys;
 ghost use Rattle.format.specs.Width.{width};
 
-// The 64 bits of v, in two's complement: the Rust's `v as u64`. A cast here must lose nothing, so a negative v is cast as
-// its complement; the compiler makes no instruction of it.
+pub mod words;
+
+// The 64 bits of v, in two's complement: the Rust's `v as u64`.
 pub fn bits_of(v: i64) -> u64
     ensures { result ≡ residue v }
 {
-    if v < 0 { !((!v) as u64) } else { v as u64 }
+    v.cast_unsigned()
 }
 
 // The key whose 64 bits are b: the Rust's `b as i64`.
+#[tactic(auto, using(crate::proofs::Signed::signed_cast))]
 pub fn of_bits(b: u64) -> i64
     ensures { result ≡ as_signed b }
 {
-    if b <= 0x7fff_ffff_ffff_ffff {
-        b as i64
-    } else {
-        !((!b) as i64)
-    }
+    b.cast_signed()
 }
 
 // The lesser of two keys.
+#[tactic(auto, unfolding(format::specs::Keys::lesser))]
 pub fn lesser(a: i64, b: i64) -> i64
     ensures { result ≡ Keys.lesser a b }
 {
-    if b < a { b } else { a }
+    a.min(b)
 }
 
 // The greater of two keys.
+#[tactic(auto, using(crate::proofs::Signed::max_greater))]
 pub fn greater(a: i64, b: i64) -> i64
     ensures { result ≡ Keys.greater a b }
 {
-    if a < b { b } else { a }
+    a.max(b)
 }
 
 // a + b modulo 2^64.
+#[tactic(auto, using(crate::proofs::Signed::add_wraps))]
 pub fn wrapping_add(a: i64, b: i64) -> i64
     ensures { result ≡ wrapping_add a b }
 {
-    of_bits(std::num::wrapping_add_u64(bits_of(a), bits_of(b)))
+    a.wrapping_add(b)
 }
 
 // a - b modulo 2^64: the delta from b to a.
+#[tactic(auto, using(crate::proofs::Signed::sub_wraps))]
 pub fn wrapping_sub(a: i64, b: i64) -> i64
     ensures { result ≡ delta b a }
 {
-    of_bits(std::num::wrapping_sub_u64(bits_of(a), bits_of(b)))
+    a.wrapping_sub(b)
 }
 
 // How far b lies above a, modulo 2^64: a gap, a difference from the least value, a span. It may be above every key.
+#[tactic(auto, using(crate::proofs::Signed::gap_bits))]
 pub fn gap(a: i64, b: i64) -> u64
     ensures { result ≡ Keys.gap a b }
 {
-    bits_of(wrapping_sub(b, a))
+    b.wrapping_sub(a).cast_unsigned()
 }
 
-// 2 v for v of 0 or more, else -2 v - 1. Twice v may wrap, and unary minus would overflow at -2^62, whose double is the
-// least key; so the complement, which is -x - 1 modulo 2^64, stands for the negation.
+// 2 v for v of 0 or more, else -2 v - 1. Twice v may wrap; the complement is -x - 1 modulo 2^64.
 pub fn zigzag_encode(v: i64) -> u64
     ensures { result ≡ zigzag v }
 {
-    let twice = v << 1;
-    if v < 0 {
-        bits_of(!twice)
-    } else {
-        bits_of(twice)
-    }
+    let twice = (v << 1).cast_unsigned();
+    if v < 0 { !twice } else { twice }
 }
 
 // The key whose ZigZag is u.
+#[tactic(auto, unfolding(format::specs::Keys::unzigzag))]
 pub fn zigzag_decode(u: u64) -> i64
     ensures { result ≡ unzigzag u }
 {
-    let half = (u >> 1) as i64;
-    if u & 1 == 0 { half } else { -half - 1 }
+    let half = (u >> 1).cast_signed();
+    if u & 1 == 0 { half } else { !half }
 }
 
 // The least width that holds every number up to max: 64 less the leading zeros.
+#[tactic(auto, unfolding(format::specs::Width::width))]
 pub fn required_width(max: u64) -> u32
     ensures { result ≡ width max }
 {
-    64 - u64::leading_zeros(max)
+    64 - max.leading_zeros()
 }

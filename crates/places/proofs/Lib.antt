@@ -1,6 +1,6 @@
 pub mod Blocks
-pub mod Filling
-pub mod Keys
+pub mod Decoding
 pub mod Mapped
 pub mod Packing
 pub mod Placing
+pub mod Taking

@@ -1,97 +1,54 @@
--- A loop that packs what a function gives of each value of a column, block by block: the bytes of the values that are left are still to come (`Placing`).
-use mathlib.Core.Path.{◌≡◌, refl, sym, ap, ap₂, ◌∙◌}
-use mathlib.Core.List.{List, [], ◌∷◌, ◌++◌, map}
-use Prim.Native.Nat.{ℕ, zero, suc, ◌+◌, ◌-◌, ◌≤◌, min, zero-le}
+-- Packing what a function gives of each value of a column, block by block: the bytes of the values that are left are still to come (`Storing`).
+use mathlib.Core.Path.{◌≡◌, sym, ap, ◌∙◌}
+use mathlib.Core.List.{List, [], ◌++◌, map, map-append, append-nil}
+use Prim.Native.Nat.{ℕ, ◌+◌, ◌-◌, ◌≤◌, min}
 use native.Mathlib.Decide.{dec_le}
 use native.Mathlib.Omega.{arith}
 use lib.IntN.{ℤ}
-use lib.ListN.{length, take, drop, length-map, length-drop, drop_of_length-le}
-use lib.Seq.{sets, take_at, take_all, take-length, drop-length, drop-drop, length-take-le}
+use lib.ListN.{length, take, drop, length-append, length-map, drop_of_length-le}
+use lib.Seq.{sets, take_at}
 use Rattle.format.specs.Answers.{stored}
 use Rattle.format.specs.Encodings.{max_chunk_elements}
 use Rattle.format.specs.Packing.{packed_len, packed}
 use Rattle.format.specs.Standalone.{pack_outcome}
 use Rattle.format.proofs.Numbers.Packing.{packed_len-zero, length-packed}
-use Rattle.format.proofs.Numbers.Stores.{sets-stored, Storing, storing-none, storing-done}
-use Rattle.bitpack.proofs.Blocks.{packed-block}
-use Rattle.bitpack.proofs.PackingLaws.{packed_none}
+use Rattle.format.proofs.Numbers.Stores.{sets-stored, Storing, storing-done}
+use Rattle.bitpack.proofs.PackingLaws.{packed_none, packed-append}
 use Rattle.places.specs.Places.{laid, laid_end}
 use Rattle.places.proofs.Placing.{storing-packed}
-
--- ---- a block
-
--- a function of the front is the front of what it gives, and of the rest
-module _ {A B : Type 0} (f : A → B) where
-  take-map : (n : ℕ) (l : List A) → take n (map f l) ≡ map f (take n l)
-  take-map zero l = refl
-  take-map (suc n) [] = refl
-  take-map (suc n) (x ∷ l) = ap (λ (r : List B). f x ∷ r) (take-map n l)
-
-  drop-map : (n : ℕ) (l : List A) → drop n (map f l) ≡ map f (drop n l)
-  drop-map zero l = refl
-  drop-map (suc n) [] = refl
-  drop-map (suc n) (x ∷ l) = drop-map n l
-
--- 128, or all that there are
-module _ (l : List ℤ) {n : ℕ} (e : n ≡ min (length l) 128) where
-  pub cut : (take 128 l ≡ take n l) × (drop 128 l ≡ drop n l)
-  cut = go (dec_le 128 (length l))
-    where
-      go : Dec (128 ≤ length l) → (take 128 l ≡ take n l) × (drop 128 l ≡ drop n l)
-      go (yes h) = let m : 128 ≡ n = omega arith in (ap (λ (k : ℕ). take k l) m, ap (λ (k : ℕ). drop k l) m)
-      go (no h) =
-          let m : length l ≡ n = omega arith in (
-            take_all 128 l (omega arith) ∙ sym (take-length l) ∙ ap (λ (k : ℕ). take k l) m,
-            drop_of_length-le l {i = 128} (omega arith) ∙ sym (drop-length l) ∙ ap (λ (k : ℕ). drop k l) m,
-          )
 
 -- what was stored at the front of a block
 pub front-stored : (whole l : List ℕ) (n : ℕ) {out : List ℕ} → out ≡ sets l 0 whole → length whole ≡ n → n ≤ length l → take n out ≡ whole
 unfolding stored
 front-stored whole l n e many h = ap (take n) (e ∙ sets-stored whole l (omega (arith, many))) ∙ take_at whole (drop (length whole) l) n many
 
--- ---- the loop
+-- a block of 128 values fills whole bytes, and nothing follows a shorter one
+packed-part : (w : ℕ) (part later : List ℕ) → length part ≡ min 128 (length part + length later) → packed w (part ++ later) ≡ packed w part ++ packed w later
+packed-part w part later e = go (dec_le 128 (length part))
+  where
+    go : Dec (128 ≤ length part) → packed w (part ++ later) ≡ packed w part ++ packed w later
+    go (yes h) = packed-append w 16 part later (omega arith)
+    go (no h) =
+        let none : later ≡ [] = drop_of_length-le later {i = 0} (omega arith) in
+        rw (none, append-nil part, packed_none w [] (packed_len-zero w), append-nil (packed w part))
 
-module _ (f : ℤ → ℕ) (w : ℕ) (column : List ℤ) where
-  -- the bytes are to be stored in l from `from` on; those of i values are, which makes `out`
-  pub record Placing (l : List ℕ) (from : ℕ) (out : List ℕ) (at i : ℕ) : Type 0 where
-    pub passed : i ≤ length column
-    pub storing : Storing (packed w (map f column)) l from (packed w (map f (drop i column))) out at
+-- the bytes are to be stored in l from `from` on; those of the values before `rest` are, which makes `out`
+module _ (f : ℤ → ℕ) (w : ℕ) (column rest : List ℤ) {l out : List ℕ} {from at : ℕ} (s : Storing (packed w (map f column)) l from (packed w (map f rest)) out at) where
+  pub pack-part : (part later : List ℤ) → rest ≡ part ++ later → length part ≡ min 128 (length rest) → w ≤ 64 → from + packed_len (length column) w ≤ length l
+      → {values next : List ℕ} {end : ℕ} → values ≡ map f part
+      → end ≡ laid_end (pack_outcome values w (length out - at)) at → next ≡ laid (pack_outcome values w (length out - at)) at out
+      → Storing (packed w (map f column)) l from (packed w (map f later)) next end
+  pack-part part later e n hw h {values} ev ee en =
+      let parts : length part ≡ min 128 (length part + length later) = n ∙ ap (λ (r : List ℤ). min 128 (length r)) e ∙ ap (min 128) (length-append part later) in
+      let long : length (packed w (map f column)) ≡ packed_len (length column) w = length-packed w (map f column) ∙ ap (λ (k : ℕ). packed_len k w) (length-map column f) in
+      let few : length values ≤ max_chunk_elements = omega (arith, ap length ev, length-map part f, n) in
+      let both : packed w (map f rest) ≡ packed w values ++ packed w (map f later)
+      = ap (λ (r : List ℤ). packed w (map f r)) e ∙ ap (packed w) (map-append f part later)
+      ∙ packed-part w (map f part) (map f later) (omega (arith, parts, length-map part f, length-map later f))
+      ∙ ap (λ (vs : List ℕ). packed w vs ++ packed w (map f later)) (sym ev) in
+      storing-packed s (omega (arith, h, long)) values w (packed w (map f later)) both few hw (ee, en)
 
-  module _ {l : List ℕ} {from : ℕ} where
-    pub placing-none : Placing l from l from 0
-    placing-none = record { passed = zero-le; storing = storing-none }
-
-    module _ {out : List ℕ} {at i n : ℕ} (g : Placing l from out at i) (e : n ≡ min (length column - i) 128) where
-      abbrev part : List ℤ
-      part = take n (drop i column)
-
-      part_length : length part ≡ n
-      part_length = length-take-le n (drop i column) (omega (arith, length-drop i column))
-
-      both : packed w (map f (drop i column)) ≡ packed w (map f part) ++ packed w (map f (drop (i + n) column))
-      both =
-          let c = cut (drop i column) (e ∙ ap (λ (k : ℕ). min k 128) (sym (length-drop i column))) in
-          packed-block w (map f (drop i column))
-          ∙ ap₂ (λ (a b : List ℕ). packed w a ++ packed w b) (take-map f 128 (drop i column) ∙ ap (map f) c.0)
-          (drop-map f 128 (drop i column) ∙ ap (map f) (c.1 ∙ drop-drop n i column))
-
-      -- as it stands at the front of `back`, and is put in the output
-      pub placing-block : (block : List ℕ) {back : List ℕ} → length block ≡ 128 → back ≡ sets block 0 (map f (take (i + n - i) (drop i column)))
-          → take n back ≡ map f part
-      placing-block block hb eb =
-          let m : i + n - i ≡ n = omega arith in
-          front-stored (map f part) block n (eb ∙ ap (λ (k : ℕ). sets block 0 (map f (take k (drop i column)))) m) (length-map part f ∙ part_length) (omega (arith, hb, e))
-
-      pub placing-put : {values : List ℕ} {next : List ℕ} {end : ℕ} → w ≤ 64 → from + packed_len (length column) w ≤ length l → values ≡ map f part
-          → end ≡ laid_end (pack_outcome values w (length out - at)) at → next ≡ laid (pack_outcome values w (length out - at)) at out → Placing l from next end (i + n)
-      placing-put {values} hw h ev ee en =
-          let later : List ℕ = packed w (map f (drop (i + n) column)) in
-          let long : length (packed w (map f column)) ≡ packed_len (length column) w = length-packed w (map f column) ∙ ap (λ (k : ℕ). packed_len k w) (length-map column f) in
-          let few : length values ≤ max_chunk_elements = omega (arith, ap length ev, length-map part f, part_length, e) in
-          let next : packed w (map f (drop i column)) ≡ packed w values ++ later = both ∙ ap (λ (vs : List ℕ). packed w vs ++ later) (sym ev) in
-          record { passed = omega arith; storing = storing-packed g.storing (omega (arith, h, long)) values w later next few hw (ee, en) }
-
-    pub placing-done : {out : List ℕ} {at i : ℕ} → Placing l from out at i → length column ≤ i → out ≡ sets l from (packed w (map f column))
-    placing-done g h =
-        storing-done g.storing (ap (λ (r : List ℤ). packed w (map f r)) (drop_of_length-le column h) ∙ packed_none w [] (packed_len-zero w))
+  pub pack-done : length rest ≡ 0 → out ≡ sets l from (packed w (map f column))
+  pack-done e =
+      let none : rest ≡ [] = drop_of_length-le rest {i = 0} (omega arith) in
+      storing-done s (ap (λ (r : List ℤ). packed w (map f r)) none ∙ packed_none w [] (packed_len-zero w))

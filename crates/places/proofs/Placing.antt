@@ -23,7 +23,6 @@ use Rattle.format.specs.Packing.{packed_len, packed}
 use Rattle.format.specs.Encodings.{max_chunk_elements}
 use Rattle.format.specs.Header.{header_bytes, header_len}
 use Rattle.format.specs.Standalone.{uvarint_write_outcome, pack_outcome}
-use Rattle.format.specs.declared.Answer.TheVariants.{Accepted, Refused}
 use Rattle.format.proofs.Numbers.Keys.{length-key_bytes}
 use Rattle.format.proofs.Numbers.Uvarints.{length-uvarint_bytes}
 use Rattle.format.proofs.Numbers.Packing.{length-packed}
@@ -65,16 +64,16 @@ module _ (at : ℕ) (output : List ℕ) where
   outside (ok (b ∷ bytes)) h f = absurd (omega (arith, f (b ∷ bytes) refl))
 
 -- the place after it, by the answer
-pub end-accepted : (o : Outcome (List ℕ)) (at : ℕ) {n : ℕ} → stored_answer o ≡ Accepted n → at + n ≡ laid_end o at
+pub end-accepted : (o : Outcome (List ℕ)) (at : ℕ) {n : ℕ} → stored_answer o ≡ ok n → at + n ≡ laid_end o at
 end-accepted (refused number offset) at {n} e = let z : ◌≡◌ {A = ℕ} 0 1 = cc in absurd (omega arith)
 end-accepted (ok bytes) at {n} e = let same : n ≡ length bytes = cc in ap (λ (k : ℕ). at + k) same
 
-pub end_refused : (o : Outcome (List ℕ)) (at : ℕ) {number offset : ℕ} → stored_answer o ≡ Refused number offset → at ≡ laid_end o at
+pub end_refused : (o : Outcome (List ℕ)) (at : ℕ) {number offset : ℕ} → stored_answer o ≡ refused number offset → at ≡ laid_end o at
 end_refused (refused number offset) at e = refl
 end_refused (ok bytes) at e = let z : ◌≡◌ {A = ℕ} 0 1 = cc in absurd (omega arith)
 
 -- no more than there is space for
-pub accepted-fits : (o : Outcome (List ℕ)) {space n : ℕ} → Fitting o space → stored_answer o ≡ Accepted n → n ≤ space
+pub accepted-fits : (o : Outcome (List ℕ)) {space n : ℕ} → Fitting o space → stored_answer o ≡ ok n → n ≤ space
 accepted-fits (refused number offset) f e = let z : ◌≡◌ {A = ℕ} 0 1 = cc in absurd (omega arith)
 accepted-fits (ok bytes) {space} {n} f e = let same : n ≡ length bytes = cc in omega (arith, f bytes refl, same)
 

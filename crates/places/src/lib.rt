@@ -8,10 +8,12 @@ ghost use Rattle.format.specs.Keys.{key_bytes, zigzag};
 ghost use Rattle.format.specs.Standalone.{pack_outcome, uvarint_write_outcome};
 ghost use Rattle.places.specs.Places.{fitting, laid, laid_end};
 
-use format::Answer;
+use number::words::store;
 
 pub mod block;
 pub mod load;
+pub mod packed;
+pub mod unpacked;
 
 // A varint of any length.
 fn put_long(value: u64, out: &mut [u8], at: usize) -> usize
@@ -21,7 +23,7 @@ fn put_long(value: u64, out: &mut [u8], at: usize) -> usize
     if out.len() < at {
         return at;
     }
-    let Answer::Accepted(n) = varint::write_uvarint(value, &mut out[at..]) else {
+    let Ok(n) = varint::write_uvarint(value, &mut out[at..]) else {
         return at;
     };
     at + n
@@ -66,7 +68,7 @@ pub fn put_packed(values: &[u64], width: u32, out: &mut [u8], at: usize) -> usiz
     if out.len() < at {
         return at;
     }
-    let Answer::Accepted(n) = bitpack::pack(values, width, &mut out[at..]) else {
+    let Ok(n) = bitpack::pack(values, width, &mut out[at..]) else {
         return at;
     };
     at + n
@@ -77,16 +79,9 @@ pub fn put_key(value: i64, out: &mut [u8], at: usize) -> usize
     ensures value { result ≡ laid_end (fitting (key_bytes value) (length out.old - at)) at }
     ensures out_after { out.new ≡ laid (fitting (key_bytes value) (length out.old - at)) at out.old }
 {
-    if out.len() < at {
+    if out.len() < at || out.len() - at < 8 {
         return at;
     }
-    if out.len() - at < 8 {
-        return at;
-    }
-    let mut rest = number::bits_of(value);
-    for j in 0..8 {
-        out[at + j] = (rest % 256) as u8;
-        rest = rest / 256;
-    }
+    store(number::bits_of(value), out, at);
     at + 8
 }

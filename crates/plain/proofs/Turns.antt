@@ -1,33 +1,16 @@
--- A turn of each loop: a byte of a word is stored, the word of a value, the value of a word. What is left shrinks by just that (`Storing`).
+-- A turn of each loop: the word of a value is stored, the value of a word. What is left shrinks by just that (`Storing`).
 use mathlib.Core.Path.{◌≡◌}
-use Prim.Native.Nat.{ℕ, suc, ◌+◌, ◌-◌, ◌*◌, ◌/◌, ◌%◌, ◌≤◌, ◌<◌}
-use native.Mathlib.Nat.{add_assoc}
+use Prim.Native.Nat.{ℕ, suc, ◌+◌, ◌-◌, ◌*◌, ◌≤◌, ◌<◌}
 use native.Mathlib.Numerals.{add-one}
 use native.Mathlib.Omega.{arith}
 use mathlib.Core.List.{List, [], ◌++◌}
 use lib.IntN.{ℤ, pos}
 use lib.ListN.{length, get_or, set, drop, drop_of_length-le}
 use lib.Seq.{sets, drop-cons}
-use Rattle.format.specs.Digits.{digits}
 use Rattle.format.specs.Keys.{key_bytes, key_at}
 use Rattle.format.specs.Plain.{plain_body, plain_values}
 use Rattle.format.proofs.Numbers.Keys.{length-key_bytes}
 use Rattle.format.proofs.Numbers.Stores.{Storing, storing-part, storing-one}
-
--- ---- the bytes of a word
-
--- none is left after eight
-pub bytes-end : (y j : ℕ) → 8 ≤ j → digits 256 (8 - j) y ≡ []
-unfolding digits
-bytes-end y j h = let n : 8 - j ≡ 0 = omega arith in rw n
-
-pub byte_more :
-    {whole l out : List ℕ} {from : ℕ} (p j y : ℕ) {v : ℕ} → Storing whole l from (digits 256 (8 - j) y) out (p + j) → j < 8 → v ≡ y % 256
-    → Storing whole l from (digits 256 (8 - (j + 1)) (y / 256)) (set out (p + j) v) (p + (j + 1))
-unfolding digits
-byte_more p j y s h e =
-    let n : 8 - j ≡ suc (8 - (j + 1)) = omega arith in
-    rw (e, ← add_assoc p j 1) (storing-one s (y % 256) (digits 256 (8 - (j + 1)) (y / 256)) (rw n))
 
 -- ---- the words of a column
 

@@ -16,16 +16,16 @@ unfolding of_bits of_fields of_int round size span climb units odd count_trailin
 one = refl
 
 -- 0.20
-pub gain-20 : of_bits binary64 0x3fc999999999999a ≡ round binary64 false 20 100
+pub gain_20 : of_bits binary64 0x3fc999999999999a ≡ round binary64 false 20 100
 unfolding of_bits of_fields round size span climb units odd count_trailing_zeros
-gain-20 = refl
+gain_20 = refl
 
 -- 0.05
-pub gain-5 : of_bits binary64 0x3fa999999999999a ≡ round binary64 false 5 100
+pub gain_5 : of_bits binary64 0x3fa999999999999a ≡ round binary64 false 5 100
 unfolding of_bits of_fields round size span climb units odd count_trailing_zeros
-gain-5 = refl
+gain_5 = refl
 
 -- 0.01
-pub gain-1 : of_bits binary64 0x3f847ae147ae147b ≡ round binary64 false 1 100
+pub gain_1 : of_bits binary64 0x3f847ae147ae147b ≡ round binary64 false 1 100
 unfolding of_bits of_fields round size span climb units odd count_trailing_zeros
-gain-1 = refl
+gain_1 = refl

@@ -1,3 +1,3 @@
-pub mod Choice
 pub mod Gain
 pub mod Ratio
+pub mod Told

@@ -1,11 +1,10 @@
-// The best of the seven candidates: their lengths, with availability, searched for the first least by length and rank.
-ghost use Rattle.std.specs.Prelude.{◌≡◌, ◌-◌, if◌then◌else◌};
-ghost use Rattle.format.specs.Encodings.{id_of};
-ghost use Rattle.format.specs.Estimates.{length_in, available_in};
-ghost use Rattle.format.specs.Plan as Plan;
-ghost use Rattle.plan.specs.Choice as Choice;
+// The best of the seven candidates: the shortest that is available. Of one length the one that is cheaper to read wins, and else
+// the earlier one.
+ghost use Rattle.std.specs.Prelude.{◌≡◌};
+ghost use Rattle.format.specs.Estimates.{length_in};
+ghost use Rattle.format.specs.Plan.{better, best};
 
-use codec::{decode_cost_rank, encoding_id};
+use codec::decode_cost_rank;
 use format::{Encoding, SizeEstimates};
 
 // The candidates, in the order of the ids.
@@ -19,81 +18,36 @@ const ENCODINGS: [Encoding; 7] = [
     Encoding::DeltaBinaryPacked,
 ];
 
-// Where a candidate stands among the seven.
-fn place(encoding: Encoding) -> usize
-    ensures { result ≡ id_of encoding - 1 }
-{
-    encoding_id(encoding) as usize - 1
-}
-
-// A candidate's length.
+// A candidate's length, 0 where it is not available.
+#[tactic(auto, unfolding(format::specs::Estimates::length_in))]
 pub(crate) fn length_in(estimates: SizeEstimates, encoding: Encoding) -> usize
     ensures { result ≡ length_in estimates encoding }
 {
-    let lengths = estimates.lengths;
-    lengths[place(encoding)]
-}
-
-// Whether a candidate is available.
-fn available_in(estimates: SizeEstimates, encoding: Encoding) -> bool
-    ensures { result ≡ available_in estimates encoding }
-{
-    let available = estimates.available;
-    available[place(encoding)]
-}
-
-// Whether a length and a rank come before the least so far and its rank: a candidate of the same length wins by being cheaper
-// to read, and else the earlier one stays.
-fn precedes(bytes: usize, rank: u32, least: usize, lowest: u32) -> bool
-    ensures { result ≡ Choice.precedes bytes rank least lowest }
-{
-    if bytes < least {
-        return true;
-    }
-    if bytes == least {
-        return rank < lowest;
-    }
-    false
+    estimates.lengths[encoding as usize].unwrap_or(0)
 }
 
 // Whether a candidate is available and comes before the best that was found so far.
+#[tactic(auto, unfolding(format::specs::Plan::better, format::specs::Estimates::available_in, format::specs::Estimates::length_in))]
 fn better(estimates: SizeEstimates, encoding: Encoding, found: Encoding) -> bool
-    ensures { result ≡ Plan.better estimates encoding found }
+    ensures { result ≡ better estimates encoding found }
 {
-    if !available_in(estimates, encoding) {
+    let Some(bytes) = estimates.lengths[encoding as usize] else {
         return false;
-    }
-    let bytes = length_in(estimates, encoding);
+    };
     let least = length_in(estimates, found);
-    precedes(
-        bytes,
-        decode_cost_rank(encoding),
-        least,
-        decode_cost_rank(found),
-    )
-}
-
-// The best after one candidate more.
-fn better_of(estimates: SizeEstimates, encoding: Encoding, found: Encoding) -> Encoding
-    ensures { result ≡ (if Plan.better estimates encoding found then encoding else found) }
-{
-    if better(estimates, encoding, found) {
-        encoding
-    } else {
-        found
-    }
+    (bytes, decode_cost_rank(encoding)) < (least, decode_cost_rank(found))
 }
 
 // The best candidate. Plain, with which the search begins, is always available.
+#[tactic(auto, using(crate::proofs::Choosing::best_none, crate::proofs::Choosing::best_taken, crate::proofs::Choosing::best_kept, crate::proofs::Choosing::best_done), unfolding(format::specs::Encodings::encodings))]
 pub(crate) fn best(estimates: SizeEstimates) -> Encoding
-    ensures { result ≡ Plan.best estimates }
+    ensures { result ≡ best estimates }
 {
     let mut found = Encoding::Plain;
-    let mut i: usize = 0;
-    while i < 7 {
-        let candidate = ENCODINGS[i];
-        found = better_of(estimates, candidate, found);
-        i += 1;
+    for encoding in ENCODINGS {
+        if better(estimates, encoding, found) {
+            found = encoding;
+        }
     }
     found
 }

@@ -7,6 +7,7 @@ use crate::ratio::as_float;
 
 // The fraction of Plain's length that has to be saved at a level: the Rust's `CompressionLevel::minimum_gain`. Nothing gains
 // what level 0 asks for, and a plan at level 0 does not ask.
+#[tactic(auto, using(crate::proofs::Literals::one, crate::proofs::Literals::gain_20, crate::proofs::Literals::gain_5, crate::proofs::Literals::gain_1), unfolding(crate::specs::Gain::level_gain, format::specs::Plan::minimum_gain))]
 pub fn minimum_gain(level: u32) -> f64
     ensures { result ≡ level_gain level }
 {
@@ -19,6 +20,7 @@ pub fn minimum_gain(level: u32) -> f64
 }
 
 // Whether a length, as f64, does not exceed what is left of Plain's when the gain is taken off: one product, rounded once.
+#[tactic(auto, using(crate::proofs::Literals::one), unfolding(crate::specs::Gain::level_gain, format::specs::Plan::meets_gain, format::specs::Plan::threshold))]
 pub(crate) fn meets_gain(level: u32, plain: usize, bytes: usize) -> bool
     requires { 1 ≤ level }
     ensures { result ≡ meets_gain level plain bytes }

@@ -23,6 +23,7 @@ fn quotient(n: usize, divisor: usize, none: f64) -> f64
 }
 
 // Runs by values.
+#[tactic(auto, using(crate::proofs::Literals::zero), unfolding(format::specs::Plan::run_density))]
 pub(crate) fn run_density(stats: IntegerStats) -> f64
     ensures { result ≡ run_density stats }
 {
@@ -30,6 +31,7 @@ pub(crate) fn run_density(stats: IntegerStats) -> f64
 }
 
 // Plain bytes by estimated bytes.
+#[tactic(auto, using(crate::proofs::Literals::one), unfolding(format::specs::Plan::estimated_ratio))]
 pub(crate) fn estimated_ratio(plain: usize, bytes: usize) -> f64
     ensures { result ≡ estimated_ratio plain bytes }
 {

@@ -1,134 +1,100 @@
 // What the port finds in a column, against what a record of data/columns.bin begins with: the statistics, the distinct values and the
 // estimates.
-use crate::buffers::{KEYS, keys_are_old, keys_hold, old_keys, same_keys};
-use crate::columns::chunk_at;
-use crate::fields::{after, answer_is, u8_at, u32_at, u64_at};
+use crate::buffers::{KEYS, are_old, lend};
+use crate::columns::Column;
+use crate::cursor::Cursor;
+use anyhow::{Result, bail, ensure};
 use format::limits::MAX_DICTIONARY_CARDINALITY;
-use format::{Answer, Cardinality, IntegerStats, SizeEstimates, Sortedness};
+use format::{Cardinality, IntegerStats, SizeEstimates, Sortedness};
+use std::alloc::Global;
 
-// The calls for statistics, distinct values and estimates. `scratch` gets what it holds after the first of them.
-pub(crate) fn holds(r: &[u8], is_stored: bool, column: &[i64], scratch: &mut [i64]) -> bool {
-    let found = stats::analyze_integers(column, scratch);
-    let answer = found.answer;
-    accepted(answer, r)
-        & stats_hold(r, found.stats)
-        & scratch_holds(r, is_stored, scratch)
-        & part_holds(r, is_stored, column, scratch)
-        & sizes_hold(r, column, scratch)
+pub(crate) fn read_stats(record: &mut Cursor<'_>) -> Result<IntegerStats> {
+    Ok(IntegerStats {
+        count: record.read_size()?,
+        first: record.read_i64()?,
+        min: record.read_i64()?,
+        max: record.read_i64()?,
+        run_count: record.read_size()?,
+        sortedness: read_sortedness(record)?,
+        cardinality: read_cardinality(record)?,
+        value_span: record.read_u64()?,
+        max_zigzag: record.read_u64()?,
+        varint_body_bytes: record.read_size()?,
+        run_length_body_bytes: record.read_size()?,
+        delta_min: record.read_i64()?,
+        delta_max: record.read_i64()?,
+        delta_span: record.read_u64()?,
+    })
 }
 
-// Accepted, with the number of values that the scratch's front has then.
-pub(crate) fn accepted(answer: Answer, r: &[u8]) -> bool {
-    answer_is(answer, 0, 0, values_kept(r) as u64)
-}
-
-fn is_exact(r: &[u8]) -> bool {
-    u8_at(r, 33) == 0
-}
-
-fn values_kept(r: &[u8]) -> usize {
-    if is_exact(r) {
-        return u32_at(r, 34) as usize;
-    }
-    MAX_DICTIONARY_CARDINALITY
-}
-
-fn stats_hold(r: &[u8], s: IntegerStats) -> bool {
-    values_hold(r, s) & order_holds(r, s) & runs_hold(r, s) & deltas_hold(r, s)
-}
-
-fn values_hold(r: &[u8], s: IntegerStats) -> bool {
-    size_is(s.count, r, 0)
-        & key_is(s.first, r, 4)
-        & key_is(s.min, r, 12)
-        & key_is(s.max, r, 20)
-        & (s.value_span == u64_at(r, 38))
-        & (s.max_zigzag == u64_at(r, 46))
-        & size_is(s.varint_body_bytes, r, 54)
-}
-
-fn order_holds(r: &[u8], s: IntegerStats) -> bool {
-    let sortedness = s.sortedness;
-    let cardinality = s.cardinality;
-    (number_of(sortedness) == u8_at(r, 32)) & cardinality_holds(r, cardinality)
-}
-
-fn runs_hold(r: &[u8], s: IntegerStats) -> bool {
-    size_is(s.run_count, r, 28) & size_is(s.run_length_body_bytes, r, 58)
-}
-
-fn deltas_hold(r: &[u8], s: IntegerStats) -> bool {
-    key_is(s.delta_min, r, 62) & key_is(s.delta_max, r, 70) & (s.delta_span == u64_at(r, 78))
-}
-
-fn key_is(key: i64, r: &[u8], at: usize) -> bool {
-    number::bits_of(key) == u64_at(r, at)
-}
-
-pub(crate) fn size_is(n: usize, r: &[u8], at: usize) -> bool {
-    n == u32_at(r, at) as usize
-}
-
-fn number_of(sortedness: Sortedness) -> u64 {
-    match sortedness {
-        Sortedness::Constant => 0,
-        Sortedness::Ascending => 1,
-        Sortedness::Descending => 2,
-        Sortedness::Unsorted => 3,
+fn read_sortedness(record: &mut Cursor<'_>) -> Result<Sortedness> {
+    match record.read_u8()? {
+        0 => Ok(Sortedness::Constant),
+        1 => Ok(Sortedness::Ascending),
+        2 => Ok(Sortedness::Descending),
+        3 => Ok(Sortedness::Unsorted),
+        other => bail!("sortedness {other}"),
     }
 }
 
-fn cardinality_holds(r: &[u8], cardinality: Cardinality) -> bool {
-    match cardinality {
-        Cardinality::Exact(n) => is_exact(r) & size_is(n, r, 34),
-        Cardinality::AtLeast(n) => !is_exact(r) & size_is(n, r, 34),
+fn read_cardinality(record: &mut Cursor<'_>) -> Result<Cardinality> {
+    match (record.read_u8()?, record.read_size()?) {
+        (0, count) => Ok(Cardinality::Exact(count)),
+        (1, count) => Ok(Cardinality::AtLeast(count)),
+        (other, _) => bail!("cardinality {other}"),
     }
 }
 
-// Does the scratch begin with the distinct values, and is the rest as it was? Above 16,384 the record has none.
-fn scratch_holds(r: &[u8], is_stored: bool, scratch: &[i64]) -> bool {
-    if !is_exact(r) {
-        return keys_are_old(scratch, MAX_DICTIONARY_CARDINALITY);
+// The seven lengths, each after a byte that says whether it is available; one that is not is stored as 0.
+pub(crate) fn read_estimates(record: &mut Cursor<'_>) -> Result<SizeEstimates> {
+    let mut lengths = [None; 7];
+    for length in lengths.iter_mut() {
+        *length = match (record.read_u8()?, record.read_size()?) {
+            (0, 0) => None,
+            (1, bytes) => Some(bytes),
+            (other, bytes) => bail!("estimate {other}, {bytes}"),
+        };
     }
-    let distinct = chunk_at(r, is_stored, 8);
-    let number = u32_at(r, distinct) as usize;
-    keys_hold(scratch, r, is_stored, after(distinct, 4), number)
+    Ok(SizeEstimates { lengths })
 }
 
-// The part of the scratch that is handed back; the scratch is left as by the call for statistics.
-fn part_holds(r: &[u8], is_stored: bool, column: &[i64], left: &[i64]) -> bool {
-    let mut scratch = old_keys();
-    let part = stats::distinct_values(column, &mut scratch);
-    let is_right = part_is(r, is_stored, part);
-    is_right & same_keys(&scratch, left, KEYS)
+// The calls for statistics, distinct values and estimates. They leave the same scratch, which is handed back.
+pub(crate) fn check(column: &Column, alloc: Global) -> Result<Vec<i64>> {
+    let mut scratch = lend(alloc, KEYS)?;
+    let found = stats::analyze_integers(&column.keys, &mut scratch)?;
+    ensure!(found.stats == column.stats, "the statistics");
+    ensure!(
+        found.stored == column.stored(),
+        "the number of distinct values"
+    );
+    ensure!(scratch_holds(column, &scratch), "the statistics' scratch");
+
+    let mut again = lend(alloc, KEYS)?;
+    let part = stats::distinct_values(&column.keys, &mut again);
+    let is_right = part.len() == column.distinct.count() && column.distinct.holds(part);
+    ensure!(is_right, "the distinct values");
+    ensure!(
+        again.as_slice() == scratch.as_slice(),
+        "the distinct values' scratch"
+    );
+
+    let mut again = lend(alloc, KEYS)?;
+    let survey = estimates::estimate_sizes(&column.keys, &mut again)?;
+    ensure!(survey.analysis == found, "the estimates' statistics");
+    ensure!(survey.estimates == column.estimates, "the estimates");
+    ensure!(
+        again.as_slice() == scratch.as_slice(),
+        "the estimates' scratch"
+    );
+    Ok(scratch)
 }
 
-// Is the part just the distinct values? Above 16,384 the record has none, and the part is empty.
-fn part_is(r: &[u8], is_stored: bool, part: &[i64]) -> bool {
-    let distinct = chunk_at(r, is_stored, 8);
-    let number = u32_at(r, distinct) as usize;
-    (part.len() == number) & keys_hold(part, r, is_stored, after(distinct, 4), number)
-}
-
-fn sizes_hold(r: &[u8], column: &[i64], left: &[i64]) -> bool {
-    let mut scratch = old_keys();
-    let found = plan::estimate_sizes(column, &mut scratch);
-    let answer = found.answer;
-    accepted(answer, r) & estimates_hold(r, found.estimates) & same_keys(&scratch, left, KEYS)
-}
-
-// The seven lengths, each a byte that says whether it is available, and four for the length.
-pub(crate) fn estimates_hold(r: &[u8], estimates: SizeEstimates) -> bool {
-    let mut at = 94;
-    for i in 0..7 {
-        if !estimate_holds(r, at, estimates.lengths[i], estimates.available[i]) {
-            return false;
-        }
-        at = after(at, 5);
+// Does the scratch begin with the distinct values, and is the rest as it was? Where they are too many the record has none.
+fn scratch_holds(column: &Column, scratch: &[i64]) -> bool {
+    match column.stats.cardinality {
+        Cardinality::Exact(_) => column.distinct.holds(scratch),
+        Cardinality::AtLeast(_) => scratch
+            .get(MAX_DICTIONARY_CARDINALITY..)
+            .is_some_and(are_old),
     }
-    true
-}
-
-fn estimate_holds(r: &[u8], at: usize, length: usize, is_available: bool) -> bool {
-    ((u8_at(r, at) == 1) == is_available) & size_is(length, r, after(at, 1))
 }

@@ -1,73 +1,71 @@
 // Replays the stored answers of the original Rust (docs/ORACLE.md): asks the port each question that the files in data/ hold and
 // compares; then runs document 01's entries that are not proved, and calls that it refuses. Prints how many answers hold, of each kind, which `rt`
-// holds to the file stdout, and the place of each that does not. Questions are joined by `&`, which asks them all: it has no branches,
-// so it is proved sooner.
+// holds to the file stdout, and the place of each record that does not.
 #![tactic(auto)]
 
-ghost use Rattle.std.specs.Prelude.{◌≤◌, length, IfOk};
-
-use std::io::Read;
+use anyhow::{Context, Result, ensure};
+use cursor::{Cursor, first_record};
+use std::fs;
 use std::rt::Files;
-use std::{fs, io};
+use tally::{Question, Tally};
 
 mod analysed;
 mod buffers;
 mod chunks;
 mod columns;
-mod fields;
+mod cursor;
+mod formula;
 mod gains;
 mod leaves;
 mod made;
 mod packing;
 mod planned;
-mod records;
 mod refused;
-mod sample_entries;
-mod stored_keys;
+mod sheet;
+mod tally;
 mod text;
 mod written;
 
-use records::File;
-
-fn main(rt: HostRuntime) -> io::Result<()> {
-    replay(&rt, "leaves.bin", File::Leaves)?;
-    replay(&rt, "columns.bin", File::Columns)?;
-    replay(&rt, "chunks.bin", File::Chunks)?;
-    sample_entries::run(&rt)?;
+fn main(rt: HostRuntime) -> Result<()> {
+    let alloc = rt.alloc();
+    let mut tally = Tally::new(alloc);
+    replay(&rt, "leaves.bin", &mut tally, |kind, record, _| {
+        leaves::check(kind, record, alloc)
+    })?;
+    replay(&rt, "columns.bin", &mut tally, |kind, record, tally| {
+        columns::check(kind, record, alloc, tally)
+    })?;
+    replay(&rt, "chunks.bin", &mut tally, |kind, record, tally| {
+        chunks::check(kind, record, alloc, tally)
+    })?;
+    tally.print(&rt)?;
+    sheet::run(&rt)?;
     gains::run(&rt)?;
-    refused::run(&rt)
+    refused::run(&rt)?;
+    Ok(())
 }
 
-fn replay(rt: &(impl Files + Print + Eprint), path: &str, which: File) -> io::Result<()> {
-    let mut room = buffers::old_bytes();
-    let length = load(rt, path, &mut room)?;
-    records::replay(rt, which, &room[..length])
-}
-
-// Reads a file and answers its length; 0, and says so, where it cannot be opened.
-fn load(rt: &(impl Files + Eprint), path: &str, room: &mut [u8]) -> io::Result<usize>
-    ensures { IfOk result (λ count. count ≤ length room.new) }
+// Checks every record of a file, by its kind. One that does not hold is named by its place in the file.
+fn replay<F: Fn(u8, Cursor<'_>, &mut Tally) -> Result<Question>>(
+    rt: &(impl Files + Print + AllocGlobal),
+    path: &str,
+    tally: &mut Tally,
+    check: F,
+) -> Result<()>
+    requires { F.IsAlwaysCallable check }
 {
-    match fs::open(rt, path) {
-        Ok(mut file) => read_full(&mut file, room),
-        Err(error) => {
-            eprintln!(rt; "{path}: {error}")?;
-            Ok(0)
+    let file = fs::read(rt, path).context(path)?;
+    let mut rest = cursor::after_header(&file).context("the header has no end")?;
+    while let Some((kind, record, others)) = first_record(rest) {
+        match check(kind, record, tally) {
+            Ok(question) => tally.add(question)?,
+            Err(error) => {
+                let at = file.len().saturating_sub(rest.len());
+                println!(rt; "does not hold: the record at {at} of {path}: {error}")?;
+            }
         }
+        rest = others;
     }
-}
-
-// Reads until the room is full or the file has no more, and answers how many bytes.
-fn read_full(file: &mut impl Read, room: &mut [u8]) -> io::Result<usize>
-    ensures { IfOk result (λ count. count ≤ length room.new) }
-{
-    let mut done = 0;
-    while done < room.len() {
-        let count = file.read(&mut room[done..])?;
-        if count == 0 {
-            break;
-        }
-        done += count;
-    }
-    Ok(done)
+    ensure!(rest.is_empty(), "{path} ends within a record");
+    Ok(())
 }

@@ -1,36 +1,32 @@
-// Printing, on standard output.
-use format::Answer;
-use std::io;
+// What the lines of entries are made of.
+use format::Refusal;
+use std::{fmt, io};
 
-pub(crate) fn word(rt: &impl Print, text: &str) -> io::Result<()> {
-    rt.print(text)
-}
+// A count, or a refusal by its number.
+#[derive(Drop)]
+pub(crate) struct Answer(pub(crate) Result<usize, Refusal>);
 
-pub(crate) fn line(rt: &impl Print, text: &str) -> io::Result<()> {
-    word(rt, text)?;
-    word(rt, "\n")
-}
-
-pub(crate) fn decimal(rt: &impl Print, n: u64) -> io::Result<()> {
-    rt.print(n)
-}
-
-pub(crate) fn count(rt: &impl Print, what: &str, n: u64) -> io::Result<()> {
-    word(rt, what)?;
-    decimal(rt, n)?;
-    line(rt, "")
-}
-
-pub(crate) fn answer(rt: &impl Print, answer: Answer) -> io::Result<()> {
-    match answer {
-        Answer::Accepted(count) => decimal(rt, count as u64),
-        Answer::Refused(number, offset) => refused(rt, number, offset),
+impl fmt::Display for Answer {
+    fn fmt<W: fmt::Write>(&self, f: &mut fmt::Formatter<W>) -> fmt::Result {
+        match self.0 {
+            Ok(count) => write!(f, "{count}"),
+            Err(refusal) => write!(
+                f,
+                "refused {}, offset {}",
+                refusal.kind.number(),
+                refusal.offset
+            ),
+        }
     }
 }
 
-fn refused(rt: &impl Print, number: u32, offset: usize) -> io::Result<()> {
-    word(rt, "refused ")?;
-    decimal(rt, number as u64)?;
-    word(rt, ", offset ")?;
-    decimal(rt, offset as u64)
+// A line for an entry: what was asked, the answer, and whether all of it is document 01's.
+pub(crate) fn entry(
+    rt: &impl Print,
+    what: &str,
+    answer: Result<usize, Refusal>,
+    is_right: bool,
+) -> io::Result<()> {
+    let verdict = if is_right { "ok" } else { "not ok" };
+    println!(rt; "{what}: {}, {verdict}", Answer(answer))
 }

@@ -1,158 +1,113 @@
 // What the port writes of a column, and reads back, in each encoding: the chunks and the distinct values of data/columns.bin.
-ghost use Rattle.std.specs.Prelude.{◌<◌, ◌≤◌};
-
-use crate::buffers::{
-    BYTES, KEYS, OLD_KEY, bytes_are_old, bytes_hold, keys_are_old, keys_hold, old_bytes, old_keys,
-    same_keys,
-};
-use crate::chunks::{UNNAMED, read};
-use crate::columns::chunk_at;
-use crate::fields::{after, answer_is, u8_at, u32_at};
-use crate::records::{COUNTS, WRONG, counted, place_of};
-use crate::text;
+use crate::buffers::{BYTES, KEYS, Told, are_old, begins, lend};
+use crate::chunks::read;
+use crate::columns::Column;
+use crate::cursor::Cursor;
+use crate::tally::{Question, Tally};
+use anyhow::{Context, Result, ensure};
 use format::limits::MAX_DICTIONARY_CARDINALITY;
-use format::refusal::{BUFFER_TOO_SHORT, TOO_MANY_DISTINCT};
-use std::io;
-
-const DICTIONARY: u32 = 6;
-
-// The places after the kinds: chunks written and read back, and Dictionary chunks refused for too many distinct values.
-const WRITTEN: usize = 4;
-
-const TOO_MANY: usize = 5;
-
-pub(crate) fn report(rt: &impl Print, place: usize, n: u64) -> io::Result<()> {
-    match place {
-        WRITTEN => text::count(rt, "chunks written, and read back in four ways: ", n),
-        TOO_MANY => text::count(
-            rt,
-            "Dictionary chunks of too many distinct values, refused: ",
-            n,
-        ),
-        _ => Ok(()),
-    }
-}
+use format::{Encoding, Kind, Refusal};
+use std::alloc::Global;
 
 // The seven chunks.
-pub(crate) fn chunks_hold(
-    r: &[u8],
-    is_stored: bool,
-    column: &[i64],
-    held: &mut [u64; COUNTS],
-) -> bool {
-    for id in 1..8 {
-        if !counted(held, chunk(r, is_stored, id, column)) {
-            return false;
+pub(crate) fn check(column: &Column, alloc: Global, tally: &mut Tally) -> Result<()> {
+    for (id, told) in (1..8).zip(column.chunks.iter()) {
+        let encoding = Encoding::try_from(id)?;
+        // A Dictionary chunk of too many distinct values has no bytes in the record.
+        if encoding == Encoding::Dictionary && told.count() == 0 {
+            too_many(column, alloc)?;
+            tally.add(Question::TooManyDistinct)?;
+        } else {
+            chunk(column, encoding, told, alloc)?;
+            tally.add(Question::Written)?;
         }
     }
-    true
+    Ok(())
 }
 
-// Where the chunk counts. A length of 0 stands for a Dictionary chunk of too many distinct values.
-fn chunk(r: &[u8], is_stored: bool, id: u32, column: &[i64]) -> usize {
-    let length = u32_at(r, chunk_at(r, is_stored, id)) as usize;
-    if length == 0 {
-        return place_of(TOO_MANY, too_many_holds(column, id));
-    }
-    if length > BYTES {
-        return WRONG;
-    }
-    place_of(WRITTEN, chunk_holds(r, is_stored, id, length, column))
-}
+fn chunk(column: &Column, encoding: Encoding, told: &Told<u8>, alloc: Global) -> Result<()> {
+    let id = u32::from(encoding.id());
+    let length = told.count();
+    let mut scratch = lend(alloc, KEYS)?;
+    let mut out = lend(alloc, BYTES)?;
+    let answer = integer::encode_integers(&column.keys, id, &mut scratch, &mut out);
+    ensure!(answer == Ok(length), "writing a chunk");
+    ensure!(told.holds(&out), "a chunk's bytes");
+    let is_right = match encoding {
+        Encoding::Dictionary => column.distinct.holds(&scratch),
+        _ => are_old(&scratch),
+    };
+    ensure!(is_right, "a chunk's scratch");
 
-fn chunk_holds(r: &[u8], is_stored: bool, id: u32, length: usize, column: &[i64]) -> bool
-    requires { (0 < length) × (length ≤ 262144) }
-{
-    let mut scratch = old_keys();
-    let mut out = old_bytes();
-    let answer = integer::encode_integers(column, id, &mut scratch, &mut out);
-    let at = after(chunk_at(r, is_stored, id), 4);
-    answer_is(answer, 0, 0, length as u64)
-        & bytes_hold(&out, r, is_stored, at, length)
-        & scratch_holds(r, is_stored, id, &scratch)
-        & short_holds(column, id, length, &scratch)
-        & reads_back(&out[..length], id, column)
-}
-
-// Does the scratch begin with the distinct values, if the encoding is Dictionary, and is the rest as it was?
-fn scratch_holds(r: &[u8], is_stored: bool, id: u32, scratch: &[i64]) -> bool {
-    if id != DICTIONARY {
-        return keys_are_old(scratch, 0);
-    }
-    let distinct = chunk_at(r, is_stored, 8);
-    let number = u32_at(r, distinct) as usize;
-    keys_hold(scratch, r, is_stored, after(distinct, 4), number)
-}
-
-// With one byte less than needed the answer is that length, and the scratch is left as by the call that has room.
-fn short_holds(column: &[i64], id: u32, needed: usize, left: &[i64]) -> bool
-    requires { (0 < needed) × (needed ≤ 262144) }
-{
-    let mut scratch = old_keys();
-    let is_refused = refused(
-        column,
-        id,
-        needed - 1,
-        BUFFER_TOO_SHORT as u64,
-        needed,
-        &mut scratch,
+    // With one byte less than needed the answer is that length, and the scratch is left as by the call that has room.
+    let mut again = lend(alloc, KEYS)?;
+    let room = length.checked_sub(1).context("a chunk has no bytes")?;
+    let refusal = Kind::BufferTooShort.at(length);
+    ensure!(
+        is_refused(&column.keys, id, &mut again, room, refusal, alloc)?,
+        "a chunk with too little room"
     );
-    is_refused & same_keys(&scratch, left, KEYS)
+    ensure!(
+        again.as_slice() == scratch.as_slice(),
+        "the scratch with too little room"
+    );
+
+    let chunk = out.get(..length).context("a chunk is too long")?;
+    for name in [None, Some(id)] {
+        for strict in [false, true] {
+            let mut back = lend(alloc, KEYS)?;
+            let answer = read(chunk, name, strict, &mut back);
+            ensure!(answer == Ok(column.keys.len()), "reading a chunk back");
+            ensure!(begins(&back, &column.keys), "the keys read back");
+        }
+    }
+    Ok(())
 }
 
 // Document 01 refuses a Dictionary chunk of too many distinct values, some of which are then in the scratch.
-fn too_many_holds(column: &[i64], id: u32) -> bool {
-    let mut scratch = old_keys();
-    let is_refused = refused(column, id, BYTES, TOO_MANY_DISTINCT as u64, 0, &mut scratch);
-    (id == DICTIONARY) & is_refused & keys_are_old(&scratch, MAX_DICTIONARY_CARDINALITY)
-}
-
-// Kind 3: an encoding that writes no keys. Document 01 has the offset 0, the Rust none.
-pub(crate) fn none_holds(r: &[u8]) -> bool {
-    let mut scratch = [OLD_KEY; 4];
-    let is_refused = refused(
-        &[1, 2, 3],
-        u8_at(r, 0) as u32,
-        64,
-        u8_at(r, 1),
-        0,
-        &mut scratch,
+fn too_many(column: &Column, alloc: Global) -> Result<()> {
+    let id = u32::from(Encoding::Dictionary.id());
+    let mut scratch = lend(alloc, KEYS)?;
+    let refusal = Kind::TooManyDistinct.at(0);
+    ensure!(
+        is_refused(&column.keys, id, &mut scratch, BYTES, refusal, alloc)?,
+        "a chunk of too many distinct values"
     );
-    (r.len() == 2) & is_refused & keys_are_old(&scratch, 0)
+    let rest = scratch.get(MAX_DICTIONARY_CARDINALITY..);
+    ensure!(
+        rest.is_some_and(are_old),
+        "the scratch of too many distinct values"
+    );
+    Ok(())
 }
 
-// Is the column refused so many bytes of room, with this number and offset, and is the output then as it was?
-fn refused(
-    column: &[i64],
+// An encoding that writes no keys. Document 01 has the offset 0, the Rust none.
+pub(crate) fn no_keys(mut record: Cursor<'_>, alloc: Global) -> Result<Question> {
+    let id = u32::from(record.read_u8()?);
+    let kind = record.read_kind()?.context("it is not refused")?;
+    record.end()?;
+    let mut scratch = lend(alloc, 4)?;
+    ensure!(
+        is_refused(&[1, 2, 3], id, &mut scratch, 64, kind.at(0), alloc)?,
+        "writing"
+    );
+    ensure!(are_old(&scratch), "the scratch");
+    Ok(Question::NoKeysWritten)
+}
+
+// Is writing to so many bytes refused like this, and is the output then as it was?
+fn is_refused(
+    keys: &[i64],
     id: u32,
-    room: usize,
-    number: u64,
-    offset: usize,
     scratch: &mut [i64],
-) -> bool
-    requires { room ≤ 262144 }
-{
-    let mut out = old_bytes();
-    let answer = integer::encode_integers(column, id, scratch, &mut out[..room]);
-    answer_is(answer, number, offset as u64, 0) & is_old(&out)
-}
-
-fn is_old(out: &[u8; BYTES]) -> bool {
-    bytes_are_old(out, 0)
-}
-
-// Does the chunk read back, unnamed and named, strict and not?
-fn reads_back(chunk: &[u8], id: u32, column: &[i64]) -> bool {
-    column_read(chunk, UNNAMED, false, column)
-        & column_read(chunk, UNNAMED, true, column)
-        & column_read(chunk, id, false, column)
-        & column_read(chunk, id, true, column)
-}
-
-fn column_read(chunk: &[u8], name: u32, strict: bool, column: &[i64]) -> bool {
-    let mut back = old_keys();
-    let answer = read(chunk, name, strict, &mut back);
-    answer_is(answer, 0, 0, column.len() as u64)
-        & same_keys(&back, column, column.len())
-        & keys_are_old(&back, column.len())
+    room: usize,
+    refusal: Refusal,
+    alloc: Global,
+) -> Result<bool> {
+    let mut out = lend(alloc, BYTES)?;
+    let (lent, _) = out
+        .split_at_mut_checked(room)
+        .context("a chunk is too long")?;
+    let answer = integer::encode_integers(keys, id, scratch, lent);
+    Ok(answer == Err(refusal) && are_old(&out))
 }

@@ -10,12 +10,11 @@ use lib.ListN.{length}
 use borrow.Author.Tests.{le-leb}
 use Rattle.format.specs.Outcome.{ok}
 use Rattle.format.specs.Keys.{Keys}
-use Rattle.format.specs.declared.PlanAnswer.{PlanAnswer}
+use Rattle.format.specs.Plan.{PlanAnswer}
 use Rattle.format.proofs.Plan.Checks.{take-stored}
 use Rattle.format.proofs.Third.Scratch.{third-one-scratch}
 use Rattle.round_trip.specs.Claim.{Lent, Claim}
-use Rattle.round_trip.specs.Trip.{fitting, planned_chunk, write_trip, read_trip, trip_of}
-use Rattle.round_trip.specs.declared.Trip.{Trip}
+use Rattle.round_trip.specs.Trip.{fitting, planned_chunk, Answers, write_trip, read_trip, trip_of}
 use Rattle.round_trip.proofs.Ends.{Ends, plan-accepted}
 
 -- what has room fits
@@ -26,7 +25,7 @@ fits front room h = rw (le-leb (length front) room h)
 -- however the trip ended
 pub claimed :
     {level : ℕ} {column scratch : List ℤ} {output : List ℕ} {buffer : List ℤ}
-    {trip : Trip} {scratch_after : List ℤ} {output-after : List ℕ} {buffer-after : List ℤ}
+    {trip : Answers} {scratch_after : List ℤ} {output-after : List ℕ} {buffer-after : List ℤ}
     → Keys column → Ends level column scratch output buffer trip scratch_after output-after buffer-after
     → Lent column level scratch output buffer → Claim column level scratch output buffer trip output-after buffer-after
 unfolding trip_of write_trip read_trip

@@ -11,45 +11,41 @@ use Rattle.format.specs.Outcome.{Outcome, refused, ok}
 use Rattle.format.specs.Keys.{Keys}
 use Rattle.format.specs.Encodings.{id_of}
 use Rattle.format.specs.Answers.{stored_answer, buffer_after}
-use Rattle.format.specs.Plan.{plan_of, plan_checks, plan_after_checks, plan_answer, plan_scratch}
+use Rattle.format.specs.Plan.{PlanAnswer, plan_of, plan_checks, plan_after_checks, plan_answer, plan_scratch}
 use Rattle.format.specs.Read.{read_answer, read_column}
 use Rattle.format.specs.Write.{write_outcome, write_answer, write_output, write_scratch}
-use Rattle.format.specs.declared.Answer.{Answer}
-use Rattle.format.specs.declared.Answer.TheVariants.{Accepted, Refused}
-use Rattle.format.specs.declared.PlanAnswer.{PlanAnswer}
+use Rattle.std.specs.Prelude.{Option}
+use Rattle.std.specs.Bool.{then_some}
 use Rattle.format.proofs.Third.Buffers.{length-plan_scratch}
 use Rattle.integer.specs.Back.{naming_of, back_outcome}
 use Rattle.integer.proofs.Back.{back-front, back_read}
-use Rattle.round_trip.specs.Trip.{fitting, planned_chunk, write_trip, read_trip, step_of, trip_of}
-use Rattle.round_trip.specs.declared.Step.{Step}
-use Rattle.round_trip.specs.declared.Step.TheVariants.{NotRun, Accepted as StepAccepted}
-use Rattle.round_trip.specs.declared.Trip.{Trip}
+use Rattle.round_trip.specs.Trip.{fitting, planned_chunk, write_trip, read_trip, Answers, not-run, ran, trip_of}
 use Rattle.round_trip.proofs.Writing.{write-planned, scratch-planned}
 
 -- ---- what an answer says of the questions
 
 -- a refused list stored nothing
-stored_refused {ℓ} : {A : Type ℓ} (o : Outcome (List A)) {n k : ℕ} → stored_answer o ≡ Refused n k → o ≡ refused n k
+stored_refused {ℓ} : {A : Type ℓ} (o : Outcome (List A)) {n k : ℕ} → stored_answer o ≡ refused n k → o ≡ refused n k
 stored_refused (refused number offset) h = cc
 stored_refused (ok front) h = let z : ◌≡◌ {A = ℕ} 0 1 = cc in absurd (omega arith)
 
 module _ (level : ℕ) (column : List ℤ) (room : ℕ) where
   -- a refused plan was refused by its questions
-  plan-refused : {n k : ℕ} → (plan_answer level column room).answer ≡ Refused n k → plan_checks level column room ≡ refused n k
+  plan-refused : {n k : ℕ} → (plan_answer level column room).answer ≡ refused n k → plan_checks level column room ≡ refused n k
   unfolding plan_answer
   plan-refused {n} {k} h = go (plan_checks level column room) h
     where
-      go : (o : Outcome (Unit {0})) → (plan_after_checks o level column).answer ≡ Refused n k → o ≡ refused n k
+      go : (o : Outcome (Unit {0})) → (plan_after_checks o level column).answer ≡ refused n k → o ≡ refused n k
       go (refused number offset) p = cc
       go (ok done) p = let z : ◌≡◌ {A = ℕ} 0 1 = cc in absurd (omega arith)
 
   -- an accepted one passed them, and is the column's
-  pub plan-accepted : {n : ℕ} → (plan_answer level column room).answer ≡ Accepted n
+  pub plan-accepted : {n : ℕ} → (plan_answer level column room).answer ≡ ok n
       → (plan_checks level column room ≡ ok tt) × ((plan_answer level column room).plan ≡ plan_of level column)
   unfolding plan_answer
   plan-accepted {n} h = go (plan_checks level column room) h
     where
-      go : (o : Outcome (Unit {0})) → (plan_after_checks o level column).answer ≡ Accepted n
+      go : (o : Outcome (Unit {0})) → (plan_after_checks o level column).answer ≡ ok n
           → (o ≡ ok tt) × ((plan_after_checks o level column).plan ≡ plan_of level column)
       go (refused number offset) p = let z : ◌≡◌ {A = ℕ} 0 1 = cc in absurd (omega arith)
       go (ok done) p = (refl, refl)
@@ -58,15 +54,15 @@ module _ (level : ℕ) (column : List ℤ) (room : ℕ) where
 
 module _ (level : ℕ) (column scratch : List ℤ) (output : List ℕ) where
   -- the answers and the buffers are those that Trip defines
-  pub record Ends (buffer : List ℤ) (trip : Trip) (scratch_after : List ℤ) (output-after : List ℕ) (buffer-after : List ℤ) : Type 0 where
+  pub record Ends (buffer : List ℤ) (trip : Answers) (scratch_after : List ℤ) (output-after : List ℕ) (buffer-after : List ℤ) : Type 0 where
     pub trip-is : trip ≡ trip_of level column (length scratch) (length output) (length buffer)
     pub scratch-is : scratch_after ≡ plan_scratch level column scratch
     pub output-is : output-after ≡ buffer_after (write_trip level column (length scratch) (length output)) output
     pub buffer-is : buffer-after ≡ buffer_after (read_trip level column (length scratch) (length output) (length buffer)) buffer
 
   -- planning was refused
-  pub not-planned : (buffer : List ℤ) {planned : PlanAnswer} {trip : Trip} {after : List ℤ} {n k : ℕ} → planned ≡ plan_answer level column (length scratch)
-      → after ≡ plan_scratch level column scratch → planned.answer ≡ Refused n k → trip ≡ record { planned = planned; written = NotRun; read = NotRun }
+  pub not-planned : (buffer : List ℤ) {planned : PlanAnswer} {trip : Answers} {after : List ℤ} {n k : ℕ} → planned ≡ plan_answer level column (length scratch)
+      → after ≡ plan_scratch level column scratch → planned.answer ≡ refused n k → trip ≡ record { planned = planned; written = not-run; read = not-run }
       → Ends buffer trip after output buffer
   unfolding trip_of write_trip read_trip
   not-planned buffer is left told made =
@@ -74,7 +70,7 @@ module _ (level : ℕ) (column scratch : List ℤ) (output : List ℕ) where
       record { trip-is = rw (made, is, no); scratch-is = left; output-is = rw no; buffer-is = rw no }
 
   -- planning was accepted, and writing in its encoding has answered
-  pub record Wrote (planned : PlanAnswer) (number : ℕ) (answer : Answer) (scratch_after : List ℤ) (output-after : List ℕ) : Type 0 where
+  pub record Wrote (planned : PlanAnswer) (number : ℕ) (answer : Outcome ℕ) (scratch_after : List ℤ) (output-after : List ℕ) : Type 0 where
     pub planned-is : planned ≡ plan_answer level column (length scratch)
     pub passed : plan_checks level column (length scratch) ≡ ok tt
     pub outcome : write_outcome number column (length scratch) (length output) ≡ fitting (planned_chunk level column) (length output)
@@ -83,8 +79,8 @@ module _ (level : ℕ) (column scratch : List ℤ) (output : List ℕ) where
     pub output-is : output-after ≡ write_output number column (length scratch) output
 
   -- so much is known from what planning and writing ensure
-  pub wrote : {planned : PlanAnswer} {left : List ℤ} {number : ℕ} {answer : Answer} {scratch_after : List ℤ} {output-after : List ℕ} {n : ℕ}
-      → planned ≡ plan_answer level column (length scratch) → left ≡ plan_scratch level column scratch → planned.answer ≡ Accepted n
+  pub wrote : {planned : PlanAnswer} {left : List ℤ} {number : ℕ} {answer : Outcome ℕ} {scratch_after : List ℤ} {output-after : List ℕ} {n : ℕ}
+      → planned ≡ plan_answer level column (length scratch) → left ≡ plan_scratch level column scratch → planned.answer ≡ ok n
       → number ≡ id_of planned.plan.encoding
       → (answer ≡ write_answer number column (length left) (length output))
       × ((scratch_after ≡ write_scratch number column left) × (output-after ≡ write_output number column (length left) output))
@@ -102,23 +98,23 @@ module _ (level : ℕ) (column scratch : List ℤ) (output : List ℕ) where
         output-is = rw room at done.1.1;
       }
 
-  module _ {planned : PlanAnswer} {number : ℕ} {answer : Answer} {scratch_after : List ℤ} {output-after : List ℕ}
+  module _ {planned : PlanAnswer} {number : ℕ} {answer : Outcome ℕ} {scratch_after : List ℤ} {output-after : List ℕ}
       (w : Wrote planned number answer scratch_after output-after) (buffer : List ℤ) where
     -- writing was refused
-    pub not_written : {n k : ℕ} {step : Step} {trip : Trip} → answer ≡ Refused n k → step ≡ step_of answer
-        → trip ≡ record { planned = planned; written = step; read = NotRun } → Ends buffer trip scratch_after output-after buffer
+    pub not_written : {n k : ℕ} {trip : Answers} → answer ≡ refused n k
+        → trip ≡ record { planned = planned; written = ran answer; read = not-run } → Ends buffer trip scratch_after output-after buffer
     unfolding trip_of write_trip read_trip write_answer write_output
-    not_written told stepped made =
+    not_written told made =
         let no = stored_refused (write_outcome number column (length scratch) (length output)) (sym w.answer-is ∙ told) in
         let fit = sym w.outcome ∙ no in
         record {
-          trip-is = rw (made, stepped, told, w.planned-is, w.passed, fit);
+          trip-is = rw (made, told, w.planned-is, w.passed, fit);
           scratch-is = w.scratch-is;
           output-is = rw (w.output-is, no, w.passed, fit);
           buffer-is = rw (w.passed, fit);
         }
 
-    module _ {n : ℕ} (told : answer ≡ Accepted n) where
+    module _ {n : ℕ} (told : answer ≡ ok n) where
       -- the output's front is the chunk that writing found
       front : (bytes : List ℕ) × (write_outcome number column (length scratch) (length output) ≡ ok bytes) × (n ≡ length bytes)
           × (n ≤ length (write_output number column (length scratch) output)) × (take n (write_output number column (length scratch) output) ≡ bytes)
@@ -134,17 +130,16 @@ module _ (level : ℕ) (column scratch : List ℤ) (output : List ℕ) where
       back_fits = rw front.1
 
       -- and they were read
-      pub read_back : Keys column → (name strict : Bool) {read : Answer} {buffer-after : List ℤ} {step : Step}
-          → (read ≡ read_answer strict (naming_of name number) (take n output-after) (length buffer))
-          × (buffer-after ≡ read_column strict (naming_of name number) (take n output-after) buffer)
-          → step ≡ step_of read
-          → Ends buffer (record { planned = planned; written = StepAccepted n; read = step }) scratch_after output-after buffer-after
+      pub read_back : Keys column → {name : Option ℕ} (naming strict : Bool) → name ≡ then_some naming number → {read : Outcome ℕ} {buffer-after : List ℤ}
+          → (read ≡ read_answer strict (naming_of name) (take n output-after) (length buffer))
+          × (buffer-after ≡ read_column strict (naming_of name) (take n output-after) buffer)
+          → Ends buffer (record { planned = planned; written = ran (ok n); read = ran read }) scratch_after output-after buffer-after
       unfolding trip_of write_trip read_trip write_answer write_output
-      read_back keys name strict done stepped =
-          let back = back_read number column (length scratch) output buffer (sym w.answer-is ∙ told) keys name strict w.output-is done in
+      read_back keys naming strict named done =
+          let back = back_read number column (length scratch) output buffer (sym w.answer-is ∙ told) keys naming strict named w.output-is done in
           let found = sym w.outcome ∙ front.1 in
           record {
-            trip-is = rw (ap step_of (sym told ∙ w.answer-is), w.outcome, stepped, back.0, back_fits, w.planned-is, w.passed, found);
+            trip-is = rw (ap ran (sym told ∙ w.answer-is), w.outcome, back.0, back_fits, w.planned-is, w.passed, found);
             scratch-is = w.scratch-is;
             output-is = rw (w.output-is, w.outcome, w.passed);
             buffer-is = rw (back.1, back_fits, w.passed, found);

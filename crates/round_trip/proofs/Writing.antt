@@ -20,9 +20,8 @@ use Rattle.format.specs.Distinct.{too_many_distinct, capped_distinct, scratch_ne
 use Rattle.format.specs.Statistics.{analysis_checks}
 use Rattle.format.specs.Plan.{plan_of, plan_checks, plan_scratch}
 use Rattle.format.specs.Write.{for_dictionary, write_checks, write_outcome, write_answer, write_scratch, scratch_after_checks}
-use Rattle.format.specs.declared.Answer.TheVariants.{Accepted}
-use Rattle.format.specs.declared.Encoding.{Encoding}
-use Rattle.format.specs.declared.Encoding.TheVariants.{Plain, Varint, BitPacked, FrameOfReference, RunLength, Dictionary, DeltaBinaryPacked}
+use Rattle.format.specs.declared.encoding.Encoding.{Encoding}
+use Rattle.format.specs.declared.encoding.Encoding.TheVariants.{Plain, Varint, BitPacked, FrameOfReference, RunLength, Dictionary, DeltaBinaryPacked}
 use Rattle.format.proofs.Codecs.Encodings.{encoding_of-id}
 use Rattle.format.proofs.Codecs.Outcome.{both-passed, check-passed}
 use Rattle.format.proofs.Plan.Checks.{write_answer-accepted}
@@ -32,7 +31,7 @@ use Rattle.round_trip.specs.Trip.{fitting, planned_chunk}
 -- ---- an encoding that is accepted with one output is refused with another only by 20
 
 -- what an accepted list of questions found
-accepted-found {ℓ} : {A : Type ℓ} (o : Outcome (List A)) {n : ℕ} → stored_answer o ≡ Accepted n → (front : List A) × (o ≡ ok front)
+accepted-found {ℓ} : {A : Type ℓ} (o : Outcome (List A)) {n : ℕ} → stored_answer o ≡ ok n → (front : List A) × (o ≡ ok front)
 accepted-found (ok front) h = (front, refl)
 accepted-found (refused number offset) h = let z : ◌≡◌ {A = ℕ} 0 1 = cc in absurd (omega arith)
 
@@ -47,7 +46,7 @@ module _ (e : Encoding) (column : List ℤ) (room : ℕ) where
       cc (encoding_of-id e)
 
   -- so, if it is written to an output as long as its chunk, then to any other where the chunk fits, or it is 20
-  write-fitting : {n : ℕ} → write_answer (id_of e) column room (length (chunk_of e column)) ≡ Accepted n
+  write-fitting : {n : ℕ} → write_answer (id_of e) column room (length (chunk_of e column)) ≡ ok n
       → (space : ℕ) → write_outcome (id_of e) column room space ≡ fitting (chunk_of e column) space
   unfolding write_answer write_outcome fitting
   write-fitting h space =

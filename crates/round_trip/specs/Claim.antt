@@ -6,9 +6,8 @@ use Rattle.format.specs.Distinct.{capped_distinct, scratch_needed}
 use Rattle.format.specs.Chunk.{chunk_of}
 use Rattle.format.specs.Plan.{plan_of, plan_scratch}
 use Rattle.format.specs.ThirdDemand.{RoundTrip}
-use Rattle.format.specs.declared.Answer.TheVariants.{Accepted}
-use Rattle.round_trip.specs.declared.Step.TheVariants.{Accepted as StepAccepted}
-use Rattle.round_trip.specs.declared.Trip.{Trip}
+use Rattle.format.specs.Outcome.{ok}
+use Rattle.round_trip.specs.Trip.{Answers, ran}
 
 -- What the demand names: "every column of up to 2^24 keys and every level 0 to 9 .. with the scratch that 01 names, output as long as the estimate or longer,
 -- and a column buffer as long as the column or longer"
@@ -22,11 +21,11 @@ pub record Lent (column : List ℤ) (level : ℕ) (scratch : List ℤ) (output :
 -- What it claims of the answers of the three steps, and of the output and the buffer afterwards
 pub record Claim
     (column : List ℤ) (level : ℕ) (scratch : List ℤ) (output : List ℕ) (buffer : List ℤ)
-    (trip : Trip) (output-after : List ℕ) (buffer-after : List ℤ) : Type 0 where
+    (trip : Answers) (output-after : List ℕ) (buffer-after : List ℤ) : Type 0 where
   -- "None of this is refused"
-  pub planned : trip.planned ≡ record { answer = Accepted (length (capped_distinct column)); plan = plan_of level column }
-  pub written : trip.written ≡ StepAccepted (length (chunk_of trip.planned.plan.encoding column))
-  pub read : trip.read ≡ StepAccepted (length column)
+  pub planned : trip.planned ≡ record { answer = ok (length (capped_distinct column)); plan = plan_of level column }
+  pub written : trip.written ≡ ran (ok (length (chunk_of trip.planned.plan.encoding column)))
+  pub read : trip.read ≡ ran (ok (length column))
   -- what was written is the column's chunk, "and reading gives back exactly its keys in order"
   pub chunk : take (length (chunk_of trip.planned.plan.encoding column)) output-after ≡ chunk_of trip.planned.plan.encoding column
   pub back : take (length column) buffer-after ≡ column

@@ -1,2 +1,3 @@
 pub mod Trip
 pub mod Claim
+pub mod Told

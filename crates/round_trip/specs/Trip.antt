@@ -6,12 +6,18 @@ use Rattle.std.specs.Prelude.{ℕ, List, ℤ, leb, length}
 use Rattle.format.specs.Outcome.{Outcome, refused, ok, check, ◌>>=◌}
 use Rattle.format.specs.Answers.{stored_answer}
 use Rattle.format.specs.Chunk.{chunk_of}
-use Rattle.format.specs.Plan.{plan_of, plan_checks, plan_answer}
-use Rattle.format.specs.declared.Answer.{Answer}
-use Rattle.format.specs.declared.Answer.TheVariants.{Accepted, Refused}
-use Rattle.round_trip.specs.declared.Step.{Step}
-use Rattle.round_trip.specs.declared.Step.TheVariants.{NotRun, Accepted as StepAccepted, Refused as StepRefused}
-use Rattle.round_trip.specs.declared.Trip.{Trip}
+use Rattle.format.specs.Plan.{PlanAnswer, plan_of, plan_checks, plan_answer}
+
+-- what a step answered, or that it did not run, since one before it was refused
+pub data Step : Type 0 where
+  not-run : Step
+  ran : Outcome ℕ → Step
+
+-- what planning, writing and reading answered
+pub record Answers : Type 0 where
+  pub planned : PlanAnswer
+  pub written : Step
+  pub read : Step
 
 -- "long enough? 20, offset the length needed": what is to be stored, for a buffer of `room` places
 unfoldable pub fitting {ℓ} : {A : Type ℓ} → List A → ℕ → Outcome (List A)
@@ -35,18 +41,13 @@ read_trip level column room space places = do
   _ ← write_trip level column room space
   fitting column places
 
--- an answer as that of a step that ran
-abbrev pub step_of : Answer → Step
-step_of (Accepted count) = StepAccepted count
-step_of (Refused number offset) = StepRefused number offset
-
 -- a step after others: it runs where none of them was refused
-abbrev pub step_after {ℓ} : {A : Type ℓ} → Outcome A → Answer → Step
-step_after (refused number offset) answer = NotRun
-step_after (ok found) answer = step_of answer
+abbrev pub step_after {ℓ} : {A : Type ℓ} → Outcome A → Outcome ℕ → Step
+step_after (refused number offset) answer = not-run
+step_after (ok found) answer = ran answer
 
 -- THE ANSWERS of the three steps
-unfoldable pub trip_of : ℕ → List ℤ → ℕ → ℕ → ℕ → Trip
+unfoldable pub trip_of : ℕ → List ℤ → ℕ → ℕ → ℕ → Answers
 trip_of level column room space places =
     record {
       planned = plan_answer level column room;

@@ -1,50 +1,33 @@
 // The third demand: a column is planned, written in the encoding planned, and read back from the bytes that were written.
 #![tactic(auto)]
 
-ghost use Rattle.std.specs.Prelude.{◌≡◌, length};
+ghost use Rattle.std.specs.Prelude.{◌≡◌, length, None};
 ghost use Rattle.format.specs.Answers.{buffer_after};
 ghost use Rattle.format.specs.Plan.{plan_scratch};
 ghost use Rattle.round_trip.specs.Claim.{Lent, Claim};
-ghost use Rattle.round_trip.specs.declared.Step.TheVariants.{NotRun};
-ghost use Rattle.round_trip.specs.Trip.{step_of, trip_of, write_trip, read_trip};
+ghost use Rattle.round_trip.specs.Told.{trip_told};
+ghost use Rattle.round_trip.specs.Trip.{trip_of, write_trip, read_trip};
 
-use format::{Answer, PlanAnswer};
-use plan::analyze;
+use format::Refusal;
+use integer::{decode_either, encode, read_all};
+use plan::{Planned, analyze};
 
-// What a step answered, or that it did not run, since one before it was refused.
-#[derive(Clone, Copy)]
-pub enum Step {
-    NotRun,
-    Accepted(usize),
-    Refused(u32, usize),
-}
-
-// What planning, writing and reading answered.
-#[derive(Clone, Copy)]
+// What planning, writing and reading answered; nothing where a step did not run, since one before it was refused.
+#[derive(Clone, Copy, Debug)]
 pub struct Trip {
-    pub planned: PlanAnswer,
-    pub written: Step,
-    pub read: Step,
-}
-
-// The answer of a step that ran.
-fn step_of(answer: Answer) -> Step
-    ensures { result ≡ step_of answer }
-{
-    match answer {
-        Answer::Accepted(count) => Step::Accepted(count),
-        Answer::Refused(number, offset) => Step::Refused(number, offset),
-    }
+    pub planned: Result<Planned, Refusal>,
+    pub written: Option<Result<usize, Refusal>>,
+    pub read: Option<Result<usize, Refusal>>,
 }
 
 // A trip that ends before reading.
-fn ended(planned: PlanAnswer, written: Step) -> Trip
-    ensures { result ≡ record { planned = planned; written = written; read = NotRun } }
+fn ended(planned: Result<Planned, Refusal>, written: Option<Result<usize, Refusal>>) -> Trip
+    ensures { result ≡ record { planned = planned; written = written; read = None } }
 {
     Trip {
         planned,
         written,
-        read: Step::NotRun,
+        read: None,
     }
 }
 
@@ -61,7 +44,7 @@ pub fn round_trip(
     out: &mut [u8],
     back: &mut [i64],
 ) -> Trip
-    ensures value { result ≡ trip_of level column.now (length scratch.old) (length out.old) (length back.old) }
+    ensures value { trip_told result ≡ trip_of level column.now (length scratch.old) (length out.old) (length back.old) }
     ensures scratch_after { scratch.new ≡ plan_scratch level column.now scratch.old }
     ensures out_after { out.new
         ≡ buffer_after (write_trip level column.now (length scratch.old) (length out.old)) out.old }
@@ -69,25 +52,23 @@ pub fn round_trip(
         ≡ buffer_after (read_trip level column.now (length scratch.old) (length out.old) (length back.old))
         back.old }
     ensures claim { Lent column.now level scratch.old out.old back.old
-        → Claim column.now level scratch.old out.old back.old result out.new back.new }
+        → Claim column.now level scratch.old out.old back.old (trip_told result) out.new back.new }
 {
-    integer::read_all(column);
+    read_all(column);
     let planned = analyze(column, level, scratch);
-    let answer = planned.answer;
-    let Answer::Accepted(_) = answer else {
-        return ended(planned, Step::NotRun);
+    let Ok(found) = planned else {
+        return ended(planned, None);
     };
-    let plan = planned.plan;
-    let encoding = plan.encoding;
-    let number = codec::encoding_id(encoding);
-    let written = integer::encode_integers(column, number, scratch, out);
-    let Answer::Accepted(n) = written else {
-        return ended(planned, step_of(written));
+    let encoding = found.plan.encoding;
+    let written = encode(encoding, column, scratch, out);
+    let Ok(stored) = written else {
+        return ended(planned, Some(written));
     };
-    let read = integer::decode_either(&out[..n], number, naming, strict, back);
+    let name = naming.then_some(encoding.id() as u32);
+    let read = decode_either(&out[..stored], name, strict, back);
     Trip {
         planned,
-        written: Step::Accepted(n),
-        read: step_of(read),
+        written: Some(written),
+        read: Some(read),
     }
 }

@@ -44,45 +44,36 @@ count-one key (v ∷ vs) = go (eq_z key v) (count-one v vs) (count-any v 2 1 vs)
     go true some same = omega (arith, some, same)
     go false some same = omega arith
 
--- the first value begins a run
-count-first : (column : List ℤ) → (length column ≡ 0 → ⊥) → 1 + length (runs_from (get_or column 0 (pos 0)) 1 (drop 1 column)) ≡ length (runs column) + 1
-unfolding runs
-count-first [] h = absurd (h refl)
-count-first (v ∷ vs) h = omega arith
+-- the runs that end at place i or after it, if one began just before i
+unfoldable pub left : List ℤ → ℕ → ℕ
+left column i = length (runs_from (get_or column (i - 1) (pos 0)) 1 (drop i column))
 
--- the values before i have begun so many runs
-pub record Counting (column : List ℤ) (i count : ℕ) : Type 0 where
-  pub some : 1 ≤ i
-  pub within : i ≤ length column
-  pub whole : count + length (runs_from (get_or column (i - 1) (pos 0)) 1 (drop i column)) ≡ length (runs column) + 1
+-- the first value begins a run
+pub left_first : (column : List ℤ) → (length column ≡ 0 → ⊥) → left column 1 ≡ length (runs column)
+unfolding runs left
+left_first [] h = absurd (h refl)
+left_first (v ∷ vs) h = refl
 
 module _ (column : List ℤ) where
-  pub counting-none : length column ≡ 0 → 0 ≡ length (runs column)
-  counting-none e = omega (arith, length_runs column)
+  -- no more runs than values
+  pub runs_most : length (runs column) ≤ length column
+  runs_most = omega (arith, length_runs column)
 
-  pub counting-first : (length column ≡ 0 → ⊥) → Counting column 1 1
-  counting-first h = record { some = omega arith; within = omega arith; whole = count-first column h }
-
-  module _ {i count : ℕ} (k : Counting column i count) where
-    -- no sum wraps
-    pub counting-limit : count ≤ length column
-    counting-limit = omega (arith, k.whole, count-one (get_or column (i - 1) (pos 0)) (drop i column), length_runs column)
-
+  module _ (i : ℕ) where
     -- a value more
-    pub counting_more : {a b : ℤ} {more : ℕ} → i < length column → a ≡ get_or column (i - 1) (pos 0) → b ≡ get_or column i (pos 0) → more ≡ cond (eq_z a b) 0 1
-        → Counting column (i + 1) (count + more)
-    counting_more {a} {b} {more} h ea eb e =
+    pub left_next : 1 ≤ i → i < length column → left column i ≡ cond (eq_z (get_or column (i - 1) (pos 0)) (get_or column i (pos 0))) 0 1 + left column (i + 1)
+    unfolding left
+    left_next some h =
         let here : i + 1 - 1 ≡ i = omega arith in
-        let rest = drop-cons column i (pos 0) h in
-        let next = ap (λ (l : List ℤ). length (runs_from (get_or column (i - 1) (pos 0)) 1 l)) rest ∙ count_next (get_or column (i - 1) (pos 0)) (get_or column i (pos 0)) _ in
-        let step : more ≡ cond (eq_z (get_or column (i - 1) (pos 0)) (get_or column i (pos 0))) 0 1 = rw (← ea, ← eb) e in
-        record {
-          some = omega arith;
-          within = omega arith;
-          whole = rw (here, add-one i) (omega (arith, k.whole, next, step));
-        }
+        rw (here, add-one i)
+        (ap (λ (l : List ℤ). length (runs_from (get_or column (i - 1) (pos 0)) 1 l)) (drop-cons column i (pos 0) h)
+        ∙ count_next (get_or column (i - 1) (pos 0)) (get_or column i (pos 0)) _)
 
-    -- all of them
-    pub counting-done : length column ≤ i → count ≡ length (runs column)
-    unfolding runs_from
-    counting-done h = let none = drop_of_length-le column h in omega (arith, rw none at k.whole)
+    pub left_some : 1 ≤ left column i
+    unfolding left
+    left_some = count-one (get_or column (i - 1) (pos 0)) (drop i column)
+
+    -- none
+    pub left_end : length column ≤ i → left column i ≡ 1
+    unfolding left runs_from
+    left_end h = rw (drop_of_length-le column h)

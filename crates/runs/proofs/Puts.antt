@@ -24,32 +24,30 @@ first-bytes : (r : Run) (rs : List Run) → run_bytes (r ∷ rs) ≡ uvarint_byt
 unfolding run_bytes varint_bytes
 first-bytes r rs = append_assoc (uvarint_bytes (zigzag r.key)) (uvarint_bytes r.times) (run_bytes rs)
 
--- the runs before `start` are stored in output from `from` on, which makes out; the next is stored at `at`
-pub record PuttingRuns (column : List ℤ) (output : List ℕ) (from start : ℕ) (out : List ℕ) (at : ℕ) : Type 0 where
-  pub stores : Storing (run_bytes (runs column)) output from (run_bytes (runs (drop start column))) out at
+pub putting_none : (column : List ℤ) (output : List ℕ) (from : ℕ) → Storing (run_bytes (runs column)) output from (run_bytes (runs column)) output from
+putting_none column output from = storing-none
 
-pub putting-none : {column : List ℤ} {output : List ℕ} {from : ℕ} → PuttingRuns column output from 0 output from
-putting-none = record { stores = storing-none }
+module _ (column : List ℤ) (output : List ℕ) (from start : ℕ) (out : List ℕ) (at : ℕ)
+    (stores : Storing (run_bytes (runs column)) output from (run_bytes (runs (drop start column))) out at)
+  where
+    -- a run more; the first call is handed its key by its bits
+    pub putting_more :
+        {end after-key : ℕ} {middle : List ℕ} {last : ℕ} {next : List ℕ} → from + length (run_bytes (runs column)) ≤ length output → RunAt column start end
+        → mag (get_or column start (pos 0)) < 2 ^ 63 → PutUvarint (zigzag (to_z w64 (of_z w64 (get_or column start (pos 0))))) out at middle after-key
+        → PutUvarint (end - start) middle after-key next last → Storing (run_bytes (runs column)) output from (run_bytes (runs (drop end column))) next last
+    putting_more {end} room r fits key times =
+        let run = run_of column start end in
+        let rest = runs (drop end column) in
+        let k = rw (to_z-of_z {z = get_or column start (pos 0)} (sfits_of fits)) at key in
+        let first = storing-uvarint stores room (zigzag run.key) (uvarint_bytes run.times ++ run_bytes rest) (ap run_bytes r.first ∙ first-bytes run rest) k in
+        storing-uvarint first room run.times (run_bytes rest) refl times
 
-module _ {column : List ℤ} {output : List ℕ} {from start : ℕ} {out : List ℕ} {at : ℕ} (p : PuttingRuns column output from start out at) where
-  -- a run more; the first call is handed its key by its bits
-  pub putting-more :
-      {end after-key : ℕ} {middle : List ℕ} {last : ℕ} {next : List ℕ} → from + length (run_bytes (runs column)) ≤ length output → RunAt column start end
-      → mag (get_or column start (pos 0)) < 2 ^ 63 → PutUvarint (zigzag (to_z w64 (of_z w64 (get_or column start (pos 0))))) out at middle after-key
-      → PutUvarint (end - start) middle after-key next last → PuttingRuns column output from end next last
-  putting-more {end} room r fits key times =
-      let run = run_of column start end in
-      let rest = runs (drop end column) in
-      let k = rw (to_z-of_z {z = get_or column start (pos 0)} (sfits_of fits)) at key in
-      let first = storing-uvarint p.stores room (zigzag run.key) (uvarint_bytes run.times ++ run_bytes rest) (ap run_bytes r.first ∙ first-bytes run rest) k in
-      record { stores = storing-uvarint first room run.times (run_bytes rest) refl times }
-
-  -- none is left
-  pub putting-done : length column ≤ start → (at ≡ from + length (run_bytes (runs column))) × (out ≡ sets output from (run_bytes (runs column)))
-  unfolding runs run_bytes
-  putting-done h =
-      let none = ap (λ (l : List ℤ). run_bytes (runs l)) (drop_of_length-le column h) in
-      (storing-end p.stores none, storing-done p.stores none)
+    -- none is left
+    pub putting_done : length column ≤ start → (at ≡ from + length (run_bytes (runs column))) × (out ≡ sets output from (run_bytes (runs column)))
+    unfolding runs run_bytes
+    putting_done h =
+        let none = ap (λ (l : List ℤ). run_bytes (runs l)) (drop_of_length-le column h) in
+        (storing-end stores none, storing-done stores none)
 
 -- ---- the body
 
@@ -61,9 +59,9 @@ module _ (column : List ℤ) (output : List ℕ) (at : ℕ) (room : at + length 
     unfolding run_body
     total-stored = storing-uvarint storing-none room (length (runs column)) (run_bytes (runs column)) refl (rw total at put)
 
-    pub runs-room : from + length (run_bytes (runs column)) ≤ length begun
-    runs-room = storing-room total-stored room
+    pub runs_room : from + length (run_bytes (runs column)) ≤ length begun
+    runs_room = storing-room total-stored room
 
-    pub body-stored : {end : ℕ} {out : List ℕ} → (end ≡ from + length (run_bytes (runs column))) × (out ≡ sets begun from (run_bytes (runs column)))
+    pub body_stored : {end : ℕ} {out : List ℕ} → (end ≡ from + length (run_bytes (runs column))) × (out ≡ sets begun from (run_bytes (runs column)))
         → (end ≡ at + length (run_body column)) × (out ≡ sets output at (run_body column))
-    body-stored e = (e.0 ∙ total-stored.ends, e.1 ∙ total-stored.same)
+    body_stored e = (e.0 ∙ total-stored.ends, e.1 ∙ total-stored.same)

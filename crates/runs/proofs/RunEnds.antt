@@ -37,17 +37,17 @@ same_key_lem column start at f g = same_bits (get_or column start (pos 0)) (get_
 
 module _ (column : List ℤ) where
   -- a run begins with one value
-  pub running-one : (start : ℕ) → start < length column → Running column start (start + 1)
+  pub running_one : (start : ℕ) → start < length column → Running column start (start + 1)
   unfolding runs
-  running-one start h =
+  running_one start h =
       let one : start + 1 - start ≡ 1 = omega arith in
       record { some = omega arith; within = omega arith; whole = rw (one, drop-cons column start (pos 0), add-one start) }
 
   module _ {start end : ℕ} (r : Running column start end) where
     -- the column's end
-    pub running-last : length column ≤ end → RunAt column start end
+    pub running_last : length column ≤ end → RunAt column start end
     unfolding runs_from runs
-    running-last h = record { some = r.some; within = r.within; first = r.whole ∙ rw (drop_of_length-le column h) }
+    running_last h = record { some = r.some; within = r.within; first = r.whole ∙ rw (drop_of_length-le column h) }
 
     module _ (h : end < length column) where
       from_end : drop end column ≡ get_or column end (pos 0) ∷ drop (end + 1) column
@@ -64,8 +64,8 @@ module _ (column : List ℤ) where
           }
 
       -- another value
-      pub running-other : same_key column start end ≡ false → RunAt column start end
-      running-other e =
+      pub running_other : same_key column start end ≡ false → RunAt column start end
+      running_other e =
           record {
             some = r.some;
             within = r.within;
@@ -88,18 +88,20 @@ and_second true b h = h
 and_second false b h = cc
 
 -- n values more
-pub running-several : (column : List ℤ) {start end : ℕ} → Running column start end → (n : ℕ) → end + n ≤ length column → same_from column start end n ≡ true
+pub running_several : (column : List ℤ) {start end : ℕ} → Running column start end → (n : ℕ) → end + n ≤ length column → same_from column start end n ≡ true
     → Running column start (end + n)
 unfolding same_from
-running-several column {end} r zero h e = rw (add-zero end) r
-running-several column {start} {end} r (suc n) h e =
-    let before = running-several column r n (omega arith) (and_first (same_from column start end n) (same_key column start (end + n)) e) in
+running_several column {end} r zero h e = rw (add-zero end) r
+running_several column {start} {end} r (suc n) h e =
+    let before = running_several column r n (omega arith) (and_first (same_from column start end n) (same_key column start (end + n)) e) in
     let more = running_more column before (omega arith) (and_second (same_from column start end n) (same_key column start (end + n)) e) in
     rw (add-suc end n) (rw (add-one (end + n)) at more)
 
--- eight tests, each of one value
-pub same-eight : (column : List ℤ) (start at : ℕ) {a b c d e f g h : Bool} → a ≡ same_key column start at → b ≡ same_key column start (at + 1)
-    → c ≡ same_key column start (at + 2) → d ≡ same_key column start (at + 3) → e ≡ same_key column start (at + 4) → f ≡ same_key column start (at + 5)
-    → g ≡ same_key column start (at + 6) → h ≡ same_key column start (at + 7) → (a && b && c && d && e && f && g && h) ≡ same_from column start at 8
+-- none, and one more
+pub same_none : (column : List ℤ) (start at : ℕ) → same_from column start at 0 ≡ true
 unfolding same_from
-same-eight column start at p q r s t u v w = rw (p, q, r, s, t, u, v, w, add-zero at)
+same_none column start at = refl
+
+pub same_more : (column : List ℤ) (start at n : ℕ) → same_from column start at (n + 1) ≡ (same_from column start at n && same_key column start (at + n))
+unfolding same_from
+same_more column start at n = rw (add-one n)

@@ -1,9 +1,8 @@
 // Measuring and storing the runs of a column.
-ghost use Rattle.std.specs.Prelude.{◌≡◌, cond, ◌+◌, ◌<◌, ◌≤◌, length};
+ghost use Rattle.std.specs.Prelude.{◌≡◌, ◌+◌, ◌<◌, ◌≤◌, length};
 ghost use Rattle.std.proofs.lemmas.List.Edits.{sets};
 ghost use Rattle.format.specs.Encodings.{max_chunk_elements};
 ghost use Rattle.format.specs.Header.{header_len};
-ghost use Rattle.format.specs.Keys.{eq_z};
 ghost use Rattle.format.specs.Varint.{uvarint_len, varint_len};
 ghost use Rattle.format.specs.Runs.{runs, run_bytes, run_body};
 ghost use Rattle.codec.specs.Lacking.{Lacking};
@@ -14,6 +13,7 @@ use places::{put_uvarint, put_varint};
 use varint::uvarint_len_small;
 
 // Whether the value at `at` is the run's, which begins at `start`.
+#[tactic(auto, using(crate::proofs::RunEnds::same_key_lem))]
 fn same_key(column: &[i64], start: usize, at: usize) -> bool
     requires { (start < length column.now) × (at < length column.now) }
     ensures { result ≡ same_key column.now start at }
@@ -22,88 +22,76 @@ fn same_key(column: &[i64], start: usize, at: usize) -> bool
 }
 
 // Whether the eight values from `at` on are. `&` leaves no branch between them.
+#[tactic(auto, using(crate::proofs::RunEnds::same_none, crate::proofs::RunEnds::same_more))]
 fn same_eight(column: &[i64], start: usize, at: usize) -> bool
     requires { (start < length column.now) × (at + 8 ≤ length column.now) }
     ensures { result ≡ same_from column.now start at 8 }
 {
-    same_key(column, start, at)
-        & same_key(column, start, at + 1)
-        & same_key(column, start, at + 2)
-        & same_key(column, start, at + 3)
-        & same_key(column, start, at + 4)
-        & same_key(column, start, at + 5)
-        & same_key(column, start, at + 6)
-        & same_key(column, start, at + 7)
+    let mut same = true;
+    for k in 0..8 {
+        same &= same_key(column, start, at + k);
+    }
+    same
 }
 
 // How far a run goes that is known up to `from`, eight values at a time.
+#[tactic(auto, using(crate::proofs::RunEnds::running_several))]
 fn skip_eights(column: &[i64], start: usize, from: usize) -> usize
     requires { Running column.now start from }
     ensures { Running column.now start result }
 {
     let mut end = from;
-    while column.len() - end >= 8 {
-        if !same_eight(column, start, end) {
-            return end;
-        }
+    while column.len() - end >= 8 && same_eight(column, start, end) {
         end += 8;
     }
     end
 }
 
 // Where a run ends that is known up to `from`: the place of the next other value, or the column's end.
+#[tactic(auto, using(crate::proofs::RunEnds::running_more, crate::proofs::RunEnds::running_other, crate::proofs::RunEnds::running_last))]
 fn end_from(column: &[i64], start: usize, from: usize) -> usize
     requires { Running column.now start from }
     ensures { RunAt column.now start result }
 {
-    let mut end = from;
-    while end < column.len() {
+    for end in from..column.len() {
         if !same_key(column, start, end) {
             return end;
         }
-        end += 1;
     }
-    end
+    column.len()
 }
 
 // Where the run that begins at `start` ends. A run of one value is told at once; a longer one is walked in eights first.
+#[tactic(auto, using(crate::proofs::RunEnds::running_one, crate::proofs::RunEnds::running_other, crate::proofs::RunEnds::running_last))]
 fn run_end(column: &[i64], start: usize) -> usize
     requires { start < length column.now }
     ensures { RunAt column.now start result }
 {
     let next = start + 1;
-    if column.len() <= next {
-        return next;
-    }
-    if !same_key(column, start, next) {
+    if column.len() <= next || !same_key(column, start, next) {
         return next;
     }
     end_from(column, start, skip_eights(column, start, next))
 }
 
-// 1 for values that differ, else 0.
-fn differ(a: i64, b: i64) -> usize
-    ensures { result ≡ cond (eq_z a b) 0 1 }
-{
-    if a == b { 0 } else { 1 }
-}
-
 // How many runs a column has: the first value begins one, and so does each that is not the one before it. The compiler makes
 // vector code of this walk.
+#[tactic(auto, using(crate::proofs::Counts::runs_most, crate::proofs::Counts::left_first, crate::proofs::Counts::left_next, crate::proofs::Counts::left_some, crate::proofs::Counts::left_end))]
 pub(crate) fn count_runs(column: &[i64]) -> usize
     ensures { result ≡ length (runs column.now) }
 {
-    if column.len() == 0 {
+    if column.is_empty() {
         return 0;
     }
     let mut count = 1;
     for i in 1..column.len() {
-        count += differ(column[i - 1], column[i]);
+        count += usize::from(column[i - 1] != column[i]);
     }
     count
 }
 
 // How many bytes a run has.
+#[tactic(auto, using(crate::proofs::Measures::uvarint_len_most), unfolding(format::specs::Varint::varint_len))]
 fn run_len(key: i64, times: usize) -> usize
     ensures { result ≡ varint_len key + uvarint_len times }
 {
@@ -111,6 +99,7 @@ fn run_len(key: i64, times: usize) -> usize
 }
 
 // How many bytes the runs have.
+#[tactic(auto, using(crate::proofs::Measures::measure_next, crate::proofs::Measures::measure_end, crate::proofs::Measures::run_bytes_most))]
 fn runs_len(column: &[i64]) -> usize
     requires { length column.now ≤ max_chunk_elements }
     ensures { result ≡ length (run_bytes (runs column.now)) }
@@ -125,21 +114,23 @@ fn runs_len(column: &[i64]) -> usize
     bytes
 }
 
-// The length of the chunk of a column with `count` runs where `space` bytes are too few for it, else 0. The runs are measured only
-// where there is no room for two varints of ten bytes a value.
-pub(crate) fn lacking(column: &[i64], count: usize, space: usize) -> usize
+// The length of the chunk of a column with `count` runs where `space` bytes are too few for it. The runs are measured only where
+// there is no room for two varints of ten bytes a value.
+#[tactic(auto, using(crate::proofs::Measures::body_len, crate::proofs::Measures::run_bytes_most, crate::proofs::Measures::uvarint_len_most, crate::proofs::Measures::header_most))]
+pub(crate) fn lacking(column: &[i64], count: usize, space: usize) -> Option<usize>
     requires { (length column.now ≤ max_chunk_elements) × (count ≡ length (runs column.now)) }
     ensures { Lacking (header_len (length column.now) + length (run_body column.now)) space result }
 {
     let front = header_len(column.len()) + varint::uvarint_len(count as u64);
     if front + 20 * column.len() <= space {
-        return 0;
+        return None;
     }
     let needed = front + runs_len(column);
-    if needed <= space { 0 } else { needed }
+    (needed > space).then_some(needed)
 }
 
 // Stores the runs of a column from `from` on, and answers the place after them.
+#[tactic(auto, using(crate::proofs::Puts::putting_none, crate::proofs::Puts::putting_done))]
 fn store_runs(column: &[i64], out: &mut [u8], from: usize) -> usize
     requires { from + length (run_bytes (runs column.now)) ≤ length out.old }
     ensures value { result ≡ from + length (run_bytes (runs column.now)) }
@@ -157,6 +148,7 @@ fn store_runs(column: &[i64], out: &mut [u8], from: usize) -> usize
 }
 
 // Stores the body, how many runs there are and the runs, and answers the place after it.
+#[tactic(auto, using(crate::proofs::Puts::runs_room))]
 pub(crate) fn store(column: &[i64], count: usize, out: &mut [u8], at: usize) -> usize
     requires { (count ≡ length (runs column.now)) × (at + length (run_body column.now) ≤ length out.old) }
     ensures value { result ≡ at + length (run_body column.now) }

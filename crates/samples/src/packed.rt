@@ -1,11 +1,10 @@
 // Samples of packing. The numbers 0 to 7 at 3 bits are the example in the Parquet format's description of bit-packed runs, which
 // has the same order of bits; the refusals are those that document 01 lists for packing, unpacking and the packed length alone.
-use crate::text;
+use crate::text::{Answer, Hex, Input, Numbers};
+use format::limits::MAX_CHUNK_ELEMENTS;
 use std::io;
 
-const MOST: usize = 16777216;
-
-pub(crate) fn show(rt: &impl Print) -> io::Result<()> {
+pub(crate) fn show(rt: &(impl Print + AllocGlobal)) -> io::Result<()> {
     lengths(rt)?;
     packed(rt)?;
     unpacked(rt)?;
@@ -13,79 +12,59 @@ pub(crate) fn show(rt: &impl Print) -> io::Result<()> {
 }
 
 fn lengths(rt: &impl Print) -> io::Result<()> {
-    text::title(rt, "Packed lengths (document 01)")?;
-    length(rt, 0, 64)?;
-    length(rt, 1, 1)?;
-    length(rt, 8, 1)?;
-    length(rt, 9, 1)?;
-    length(rt, 3, 13)?;
-    length(rt, MOST, 0)?;
-    length(rt, MOST, 64)?;
-    length(rt, 0, 65)?;
-    length(rt, MOST + 1, 64)?;
-    length(rt, MOST + 1, 65)
+    println!(rt; "\nPacked lengths (document 01)")?;
+    for (count, width) in [
+        (0, 64),
+        (1, 1),
+        (8, 1),
+        (9, 1),
+        (3, 13),
+        (MAX_CHUNK_ELEMENTS, 0),
+        (MAX_CHUNK_ELEMENTS, 64),
+        (0, 65),
+        (MAX_CHUNK_ELEMENTS + 1, 64),
+        (MAX_CHUNK_ELEMENTS + 1, 65),
+    ] {
+        let length = Answer(bitpack::packed_len(count, width));
+        println!(rt; "{count} of width {width}:{length}")?;
+    }
+    Ok(())
 }
 
-fn length(rt: &impl Print, count: usize, width: u32) -> io::Result<()> {
-    text::unsigned(rt, count as u64)?;
-    of_width(rt, width)?;
-    text::answer(rt, bitpack::packed_len(count, width))?;
-    text::line(rt, "")
-}
-
-fn of_width(rt: &impl Print, width: u32) -> io::Result<()> {
-    text::word(rt, " of width ")?;
-    text::unsigned(rt, width as u64)?;
-    text::word(rt, ":")
-}
-
-fn packed(rt: &impl Print) -> io::Result<()> {
-    text::title(
-        rt,
-        "Values packed into bytes ee, and all bytes then (0 to 7 of width 3: Parquet; refusals: document 01)",
+fn packed(rt: &(impl Print + AllocGlobal)) -> io::Result<()> {
+    println!(rt;
+        "\nValues packed into bytes ee, and all bytes then (0 to 7 of width 3: Parquet; refusals: document 01)"
     )?;
-    pack_into_4(rt, &[0, 1, 2, 3, 4, 5, 6, 7], 3)?;
-    pack_into_2(rt, &[0, 1, 2, 3, 4, 5, 6, 7], 3)?;
-    pack_into_2(rt, &[9, 14], 3)?;
-    pack_into_2(rt, &[1, 2, 3], 0)?;
-    pack_into_2(rt, &[], 64)?;
-    pack_into_2(rt, &[1], 64)?;
-    pack_into_4(rt, &[8191, 4096], 13)?;
-    pack_into_4(rt, &[1], 65)?;
-    pack_into_9(rt, &[u64::MAX], 64)?;
-    pack_into_9(rt, &[1, u64::MAX], 33)
+    let rising = [0, 1, 2, 3, 4, 5, 6, 7];
+    pack(rt, &rising, 3, 4)?;
+    pack(rt, &rising, 3, 2)?;
+    pack(rt, &[9, 14], 3, 2)?;
+    pack(rt, &[1, 2, 3], 0, 2)?;
+    pack(rt, &[], 64, 2)?;
+    pack(rt, &[1], 64, 2)?;
+    pack(rt, &[8191, 4096], 13, 4)?;
+    pack(rt, &[1], 65, 4)?;
+    pack(rt, &[u64::MAX], 64, 9)?;
+    pack(rt, &[1, u64::MAX], 33, 9)
 }
 
-fn pack_into_2(rt: &impl Print, values: &[u64], width: u32) -> io::Result<()> {
-    let mut out = [0xeeu8; 2];
-    pack(rt, values, width, &mut out)
-}
-
-fn pack_into_4(rt: &impl Print, values: &[u64], width: u32) -> io::Result<()> {
-    let mut out = [0xeeu8; 4];
-    pack(rt, values, width, &mut out)
-}
-
-fn pack_into_9(rt: &impl Print, values: &[u64], width: u32) -> io::Result<()> {
-    let mut out = [0xeeu8; 9];
-    pack(rt, values, width, &mut out)
-}
-
-fn pack(rt: &impl Print, values: &[u64], width: u32, out: &mut [u8]) -> io::Result<()> {
-    text::word(rt, "values")?;
-    text::numbers(rt, values)?;
-    of_width(rt, width)?;
-    text::answer(rt, bitpack::pack(values, width, out))?;
-    text::word(rt, ":")?;
-    text::bytes(rt, out, out.len())?;
-    text::line(rt, "")
+fn pack(
+    rt: &(impl Print + AllocGlobal),
+    values: &[u64],
+    width: u32,
+    room: usize,
+) -> io::Result<()> {
+    let mut out = vec![in rt.alloc(); 0xee; room]?;
+    let answer = Answer(bitpack::pack(values, width, &mut out));
+    println!(rt;
+        "values{} of width {width}:{answer}:{}",
+        Numbers(values),
+        Hex(&out)
+    )
 }
 
 fn unpacked(rt: &impl Print) -> io::Result<()> {
-    text::title(
-        rt,
-        "Values unpacked into ten of 77, and all of them then (document 01)",
-    )?;
+    println!(rt; "\nValues unpacked into ten of 77, and all of them then (document 01)")?;
     unpack(rt, b"\x88\xc6\xfa", 3, 8)?;
     unpack(rt, b"\x88\xc6\xfa\xff", 3, 7)?;
     unpack(rt, b"\x88\xc6\xfa", 3, 9)?;
@@ -96,26 +75,19 @@ fn unpacked(rt: &impl Print) -> io::Result<()> {
     unpack(rt, b"\xff\xff\xff\xff\xff\xff\xff", 64, 1)?;
     unpack(rt, b"\x00", 64, 11)?;
     unpack(rt, b"\x00", 65, 0)?;
-    unpack(rt, b"\x00", 1, MOST + 1)
+    unpack(rt, b"\x00", 1, MAX_CHUNK_ELEMENTS + 1)
 }
 
-fn unpack(rt: &impl Print, s: &[u8], width: u32, count: usize) -> io::Result<()> {
-    text::unsigned(rt, count as u64)?;
-    text::word(rt, " in")?;
-    text::input(rt, s)?;
-    text::word(rt, ",")?;
-    of_width(rt, width)?;
-    let mut out = [77u64; 10];
-    text::answer(rt, bitpack::unpack(s, width, count, &mut out))?;
-    text::word(rt, ":")?;
-    text::numbers(rt, &out)?;
-    text::line(rt, "")
+fn unpack(rt: &impl Print, bytes: &[u8], width: u32, count: usize) -> io::Result<()> {
+    let mut out = [77; 10];
+    let answer = Answer(bitpack::unpack(bytes, width, count, &mut out));
+    print!(rt; "{count} in{}, of width {width}:", Input(bytes))?;
+    println!(rt; "{answer}:{}", Numbers(&out))
 }
 
 fn parts(rt: &impl Print) -> io::Result<()> {
-    text::title(
-        rt,
-        "The same from a place of the bytes on, to a place of the ten on (document 01)",
+    println!(rt;
+        "\nThe same from a place of the bytes on, to a place of the ten on (document 01)"
     )?;
     unpack_part(rt, b"\x03\x03\x88\xc6\xfa\x00", 2, 3, 8, 1)?;
     unpack_part(rt, b"\x03\x03\x88\xc6\xfa\x00", 2, 3, 8, 3)?;
@@ -127,25 +99,17 @@ fn parts(rt: &impl Print) -> io::Result<()> {
 
 fn unpack_part(
     rt: &impl Print,
-    s: &[u8],
+    bytes: &[u8],
     at: usize,
     width: u32,
     count: usize,
     from: usize,
 ) -> io::Result<()> {
-    text::unsigned(rt, count as u64)?;
-    text::word(rt, " at ")?;
-    text::place(rt, s, at)?;
-    text::word(rt, ", to place ")?;
-    text::unsigned(rt, from as u64)?;
-    text::word(rt, ",")?;
-    of_width(rt, width)?;
-    let mut out = [77u64; 10];
-    text::answer(
-        rt,
-        bitpack::unpack_part(s, at, width, count, &mut out, from),
+    let mut out = [77; 10];
+    let answer = Answer(bitpack::unpack_part(bytes, at, width, count, &mut out, from));
+    print!(rt;
+        "{count} at place {at} of{}, to place {from}, of width {width}:",
+        Input(bytes)
     )?;
-    text::word(rt, ":")?;
-    text::numbers(rt, &out)?;
-    text::line(rt, "")
+    println!(rt; "{answer}:{}", Numbers(&out))
 }

@@ -12,7 +12,7 @@ use lib.Seq.{drop-cons}
 use Rattle.format.specs.Keys.{eq_z, zigzag}
 use Rattle.format.specs.Varint.{uvarint_len, varint_len}
 use Rattle.format.proofs.Numbers.Widths.{uvarint_len-le}
-use Rattle.stats.specs.Pass.{first_values, next_values, next_runs, first_delta, first_steps, next_steps, pass_of}
+use Rattle.stats.specs.Pass.{first_values, next_values, first_runs, next_runs, first_delta, first_steps, next_steps, pass_of}
 use Rattle.stats.specs.declared.pass.Values.{Values}
 use Rattle.stats.specs.declared.pass.Runs.{Runs}
 use Rattle.stats.specs.declared.pass.Steps.{Steps}
@@ -54,11 +54,11 @@ module _ (v : ℤ) {z n : ℕ} (ez : z ≡ zigzag v) (en : n ≡ uvarint_len z) 
   bytes-few = omega (arith, en, uvarint_len-le z)
 
   -- the first value
-  pub walked-first : (column : List ℤ) {s : Values} {t : Steps} {d : ℤ} → 0 < length column → v ≡ get_or column 0 (pos 0) → d ≡ first_delta column
-      → s ≡ first_values v z n → t ≡ first_steps d → Walked column 1 v s (record { count = 1; bytes = n; length = 1 }) t
-  walked-first [] h e ed es et = absurd (omega arith)
-  walked-first (w ∷ ws) h e ed es et =
-      rw (es, et)
+  pub walked-first : (column : List ℤ) {s : Values} {r : Runs} {t : Steps} {d : ℤ} → 0 < length column → v ≡ get_or column 0 (pos 0) → d ≡ first_delta column
+      → s ≡ first_values v z n → r ≡ first_runs n → t ≡ first_steps d → Walked column 1 v s r t
+  walked-first [] h e ed es er et = absurd (omega arith)
+  walked-first (w ∷ ws) h e ed es er et =
+      rw (es, er, et)
       (record {
         within = omega arith;
         few = record { bytes = bytes-few; count = omega arith; run-bytes = omega (arith, bytes-few); length = omega arith };

@@ -19,6 +19,10 @@ first_values v z n = record { low = v; high = v; largest = z; bytes = n }
 abbrev pub next_values : Values → ℤ → ℕ → ℕ → Values
 next_values s v z n = record { low = lesser s.low v; high = greater s.high v; largest = max s.largest z; bytes = s.bytes + n }
 
+-- the run of the first value, whose varint has n bytes
+abbrev pub first_runs : ℕ → Runs
+first_runs n = record { count = 1; bytes = n; length = 1 }
+
 -- a value v more after a value `last`: the run goes on, or another one begins
 abbrev pub next_runs : Runs → ℤ → ℤ → ℕ → Runs
 next_runs r last v n =

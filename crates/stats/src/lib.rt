@@ -4,38 +4,39 @@
 
 ghost use Rattle.std.specs.Prelude.{◌≡◌, length};
 ghost use Rattle.format.specs.Statistics.{stats_answer, analysis_scratch, distinct_values_part};
+ghost use Rattle.stats.specs.Told.{stats_told};
 
-use crate::record::{refused_stats, stats_of};
+use crate::record::stats_of;
 use format::limits::MAX_DICTIONARY_CARDINALITY;
-use format::{Answer, Cardinality, StatsAnswer};
+use format::{Cardinality, IntegerStats, Kind, Refusal};
 
 pub(crate) mod pass;
 pub(crate) mod record;
 
+// A column's statistics, and how many of its distinct values are stored at the front of the scratch.
+#[derive(Clone, Copy, Debug, PartialEq, Eq)]
+pub struct Analysis {
+    pub stats: IntegerStats,
+    pub stored: usize,
+}
+
 // The statistics of a column, and its distinct values, rising, at the front of the scratch: of more than 16,384 the first
-// 16,384 met. Accepted with how many the scratch's front holds.
-pub fn analyze_integers(column: &[i64], scratch: &mut [i64]) -> StatsAnswer
-    ensures value { result ≡ stats_answer column.now (length scratch.old) }
+// 16,384 met.
+#[tactic(auto, using(crate::proofs::Answering::same_scratch))]
+pub fn analyze_integers(column: &[i64], scratch: &mut [i64]) -> Result<Analysis, Refusal>
+    ensures value { stats_told result ≡ stats_answer column.now (length scratch.old) }
     ensures scratch_after { scratch.new ≡ analysis_scratch column.now scratch.old }
 {
-    let collected = distinct::collect(column, scratch);
-    match collected {
-        Answer::Accepted(count) => StatsAnswer {
-            answer: collected,
+    match distinct::collect(column, scratch) {
+        Ok(count) => Ok(Analysis {
             stats: stats_of(column, Cardinality::Exact(count)),
-        },
-        Answer::Refused(number, offset) => {
-            if number == format::refusal::TOO_MANY_DISTINCT {
-                return StatsAnswer {
-                    answer: Answer::Accepted(MAX_DICTIONARY_CARDINALITY),
-                    stats: stats_of(column, Cardinality::AtLeast(MAX_DICTIONARY_CARDINALITY + 1)),
-                };
-            }
-            StatsAnswer {
-                answer: Answer::Refused(number, offset),
-                stats: refused_stats(),
-            }
-        }
+            stored: count,
+        }),
+        Err(refusal) if refusal.kind == Kind::TooManyDistinct => Ok(Analysis {
+            stats: stats_of(column, Cardinality::AtLeast(MAX_DICTIONARY_CARDINALITY + 1)),
+            stored: MAX_DICTIONARY_CARDINALITY,
+        }),
+        Err(refusal) => Err(refusal),
     }
 }
 
@@ -46,9 +47,6 @@ pub fn distinct_values<'a>(column: &[i64], scratch: &'a mut [i64]) -> &'a mut [i
     ensures result_value { result.now ≡ distinct_values_part column.now (length scratch.old) }
     ensures ref_ptr_value { result.ref_ptr ≡ scratch.entry.ref_ptr }
 {
-    let collected = distinct::collect(column, scratch);
-    match collected {
-        Answer::Accepted(count) => &mut scratch[..count],
-        Answer::Refused(_, _) => &mut scratch[..0],
-    }
+    let count = distinct::collect(column, scratch).unwrap_or(0);
+    &mut scratch[..count]
 }

@@ -1,50 +1,21 @@
 // The record of a column's statistics, made of the pass.
 ghost use Rattle.std.specs.Prelude.{◌≡◌, ◌≤◌, length};
 ghost use Rattle.format.specs.Encodings.{max_chunk_elements};
-ghost use Rattle.format.specs.Statistics.{sortedness_from, cardinality_of, stats_of, refused_stats};
+ghost use Rattle.format.specs.Statistics.{sortedness_from, cardinality_of, stats_of};
 
 use crate::pass::walk;
 use format::{Cardinality, IntegerStats, Sortedness};
 use number::gap;
 
-// The record of a refused call: that of the empty column.
-pub(crate) fn refused_stats() -> IntegerStats
-    ensures { result ≡ refused_stats }
-{
-    IntegerStats {
-        count: 0,
-        first: 0,
-        min: 0,
-        max: 0,
-        run_count: 0,
-        sortedness: Sortedness::Constant,
-        cardinality: Cardinality::Exact(0),
-        value_span: 0,
-        max_zigzag: 0,
-        varint_body_bytes: 0,
-        run_length_body_bytes: 0,
-        delta_min: 0,
-        delta_max: 0,
-        delta_span: 0,
-    }
-}
-
 // By whether the values never fall, and whether they never rise.
 fn sortedness_of(ascending: bool, descending: bool) -> Sortedness
     ensures { result ≡ sortedness_from ascending descending }
 {
-    if ascending {
-        if descending {
-            Sortedness::Constant
-        } else {
-            Sortedness::Ascending
-        }
-    } else {
-        if descending {
-            Sortedness::Descending
-        } else {
-            Sortedness::Unsorted
-        }
+    match (ascending, descending) {
+        (true, true) => Sortedness::Constant,
+        (true, false) => Sortedness::Ascending,
+        (false, true) => Sortedness::Descending,
+        (false, false) => Sortedness::Unsorted,
     }
 }
 
@@ -54,7 +25,7 @@ pub(crate) fn stats_of(column: &[i64], cardinality: Cardinality) -> IntegerStats
     ensures { result ≡ stats_of column.now }
 {
     if column.len() == 0 {
-        return refused_stats();
+        return IntegerStats::default();
     }
     let pass = walk(column);
     let values = pass.values;

@@ -3,13 +3,10 @@
 use Rattle.std.proofs.Common.{◌≡◌, ℕ, suc, ◌+◌, ◌-◌, ◌*◌, ◌/◌, ◌%◌, ◌<◌, ◌≤◌, Bool, true, false, ltb, leb, List, length, get_or, drop, sym, refl, ◌∙◌, arith, ltb-false, ltb-true, leb-false, leb-true}
 use Rattle.format.specs.Outcome.{ok, refused}
 use Rattle.format.specs.Varint.{uvarint_end, read_uvarint, uvarint_at}
-use Rattle.format.specs.Standalone.{uvarint_answer}
-use Rattle.format.specs.declared.UvarintAnswer.TheVariants.{Read, Malformed}
 use Rattle.format.proofs.Codecs.Counts.{uvarint-again}
 use Rattle.varint.specs.Reading.{Reading}
 use Rattle.varint.specs.Finding.{Walked, found_at}
-use Rattle.varint.proofs.Answers.{answer-read, answer-malformed}
-use Rattle.varint.proofs.Reading.{summed, again, answer-last, answer-cut, answer-long, end_none, end-eleventh, end-last, end_more}
+use Rattle.varint.proofs.Reading.{was_read, summed, again, answer-last, answer-cut, answer-long, end_none, end-eleventh, end-last, end_more}
 
 -- whether a byte is the last
 by_last {ℓ} : {C : Type ℓ} (b : ℕ) → (b < 128 → C) → (128 ≤ b → C) → C
@@ -20,12 +17,12 @@ by_last {C} b last more = go (ltb b 128) refl
     go false h = more (ltb-false b 128 h)
 
 module _ (s : List ℕ) (at : ℕ) where
-  pub found-read : {value next : ℕ} {unpadded : Bool} → uvarint_answer s at ≡ Read value next unpadded → record { value = value; next = next } ≡ found_at s at
-  found-read e = rw (uvarint-again s at (answer-read s at e))
+  pub found-read : {value next : ℕ} {unpadded : Bool} → read_uvarint s at ≡ was_read value next unpadded → record { value = value; next = next } ≡ found_at s at
+  found-read e = rw (uvarint-again s at e)
 
-  pub found-malformed : {number offset : ℕ} → uvarint_answer s at ≡ Malformed number offset → record { value = 0; next = 0 } ≡ found_at s at
+  pub found-malformed : {number offset : ℕ} → read_uvarint s at ≡ refused number offset → record { value = 0; next = 0 } ≡ found_at s at
   unfolding uvarint_at
-  found-malformed e = rw (answer-malformed s at e)
+  found-malformed e = rw e
 
   -- ---- the place after it, by the walk to the end
 

@@ -1,22 +1,19 @@
 -- What `read_word` finds in the eight bytes x of s from `at` on: the place of the varint's last byte and its value, or, where none of the eight is the last, the
 -- state after them. x is the number of those bytes, so masks and shifts of x are parts of their list.
 use Rattle.std.proofs.Common.{◌≡◌, ℕ, zero, suc, ◌+◌, ◌-◌, ◌*◌, ◌/◌, ◌%◌, ◌^◌, ◌<◌, ◌≤◌, not, eqb, ◌⊎◌, List, [], ◌∷◌, map, length, get_or, take, drop, sym, ap, ◌∙◌, ap₂, inl, inr, le_refl, lt_of_lt_of_le, add-zero, mod-eq_of_lt, zero-lt-suc, mul_comm, suc-add, one-mul, pow-suc, zero-add, zero-mul, arith, length-drop, take-append-drop, length-take-le, get_or-drop, get_or-take, take-take, drop-drop, pow_pos, pow_mono}
-use lib.Bits.{bit_and, bit_xor, and_mask, xor_block, xor_self, xor_shifted}
+use lib.Bits.{and_le_r, bit_and, bit_xor, and_mask, xor_block, xor_self, xor_shifted}
 use lib.Count.{count_trailing_zeros}
 use lib.ListN.{length-map}
 use lib.Pow.{ones_lt}
 use lib.Seq.{slice, take-nil, slice-cons, slice_empty}
 use Rattle.format.specs.Digits.{of_digits}
-use Rattle.format.specs.Varint.{uvarint_value}
-use Rattle.format.specs.Standalone.{uvarint_answer}
-use Rattle.format.specs.declared.UvarintAnswer.TheVariants.{Read}
+use Rattle.format.specs.Varint.{uvarint_value, read_uvarint}
 use Rattle.format.proofs.Numbers.All.{all_take, all_drop, Below}
 use Rattle.format.proofs.Numbers.Digits.{of_digits-lt, below-map}
 use Rattle.format.proofs.Numbers.Places.{pow-256, of_digits-take, of_digits-drop}
 use Rattle.format.proofs.Numbers.Widths.{pow-128}
-use Rattle.format.proofs.Numbers.Words.{sum8, word-taken}
 use Rattle.varint.specs.Reading.{Reading, groups8}
-use Rattle.varint.proofs.Reading.{answer-more}
+use Rattle.varint.proofs.Reading.{was_read, answer-more}
 use Rattle.varint.proofs.Pairs.{groups_of}
 use Rattle.varint.proofs.Stops.{Stop, Continued, stops, stop-inside, stop-after, walk-stop, walk-on, tops, marks, marked, marks-none, marks-some, marks-zeros, marks-lowest}
 
@@ -50,6 +47,10 @@ slice-take (suc at) k (b ∷ s) = rw (suc-add at k) (slice-take at k s)
 abbrev pub ends : ℕ → ℕ
 ends x = bit_and (2 ^ 64 - 1 - x) 9259542123273814144
 
+-- less 1, as it wraps
+abbrev below_ends : ℕ → ℕ
+below_ends x = (ends x + (2 ^ 64 - 1)) % 2 ^ 64
+
 -- the eight from `at` on
 abbrev pub eight_from : List ℕ → ℕ → List ℕ
 eight_from s at = take 8 (drop at s)
@@ -80,32 +81,29 @@ module _ {s : List ℕ} (at : ℕ) (below : Below 256 s) where
       ∙ ap (of_digits 256) (slice-cons n (suc n) (drop at s) 0 k l ∙ ap (λ (t : List ℕ). get_or (drop at s) n 0 ∷ t) (slice_empty (suc n) (drop at s)))
       ∙ rw (get_or-drop at s n 0) (omega arith)
 
-  -- x are eight, and f is `ends x` less 1, as it wraps
-  module _ (room : at + 10 ≤ length s) {x f : ℕ} (e : x ≡ sum8 s at) (g : (f + 1) % 2 ^ 64 ≡ ends x) (fits : f < 2 ^ 64) where
+  -- x are eight
+  module _ (room : at + 10 ≤ length s) {x : ℕ} (word-is : x ≡ of_digits 256 (take 8 (drop at s))) where
     eight : length (eight_from s at) ≡ 8
     eight = length-take-le 8 (drop at s) (simp length-drop (omega arith))
 
     bytes : Below 256 (eight_from s at)
     bytes = all_take 8 (all_drop at below)
 
-    word-is : x ≡ of_digits 256 (eight_from s at)
-    word-is = e ∙ word-taken at below (omega arith)
-
     ends_is : ends x ≡ marks (eight_from s at)
     unfolding tops
     ends_is = ap ends word-is ∙ (rw eight at (marked bytes))
 
     -- none of the eight is the last
-    all-is : ends x ≡ 0 → bit_and x (bit_xor (ends x) f) ≡ of_digits 256 (eight_from s at)
+    all-is : ends x ≡ 0 → bit_and x (bit_xor (ends x) (below_ends x)) ≡ of_digits 256 (eight_from s at)
     all-is z =
-        let most : f ≡ 2 ^ 64 - 1 = omega arith in
+        let most : below_ends x ≡ 2 ^ 64 - 1 = omega arith in
         let small : x < 2 ^ 64 = rw (sym word-is) at (rw eight at (of_digits-lt bytes)) in
         ap₂ (λ (u v : ℕ). bit_and x (bit_xor u v)) z most ∙ and_mask x 64 ∙ mod-eq_of_lt small ∙ word-is
 
-    pub word_over : ends x ≡ 0 → Reading s at (groups8 (bit_and x (bit_xor (ends x) f))) (at + 8) 56
+    pub word_over : ends x ≡ 0 → Reading s at (groups8 (bit_and x (bit_xor (ends x) (below_ends x)))) (at + 8) 56
     word_over z = go (stops (eight_from s at))
       where
-        go : Continued (eight_from s at) ⊎ ((n : ℕ) × Stop (eight_from s at) n) → Reading s at (groups8 (bit_and x (bit_xor (ends x) f))) (at + 8) 56
+        go : Continued (eight_from s at) ⊎ ((n : ℕ) × Stop (eight_from s at) n) → Reading s at (groups8 (bit_and x (bit_xor (ends x) (below_ends x)))) (at + 8) 56
         go (inl r) =
             record {
               left = 2;
@@ -135,19 +133,19 @@ module _ {s : List ℕ} (at : ℕ) (below : Below 256 s) where
       word-place = rw eight at (stop-inside r)
 
       -- the bytes up to it
-      low-is : bit_and x (bit_xor (ends x) f) ≡ of_digits 256 (take (suc n) (drop at s))
+      low-is : bit_and x (bit_xor (ends x) (below_ends x)) ≡ of_digits 256 (take (suc n) (drop at s))
       low-is =
           let h : suc n ≤ 8 = word-place in
           let m = marks-lowest r in
           let some : 1 ≤ 2 ^ (n * 8 + 7) = pow_pos (n * 8 + 7) in
           let shape : ends x ≡ m.0 * 2 ^ suc (n * 8 + 7) + 2 ^ (n * 8 + 7) = ends_is ∙ m.1 in
-          low-bytes x m.0 n f shape (omega arith)
+          low-bytes x m.0 n (below_ends x) shape (omega (arith, shape, some, and_le_r (2 ^ 64 - 1 - x) 9259542123273814144))
           ∙ ap (λ (y : ℕ). y % 256 ^ suc n) word-is
           ∙ sym (of_digits-take (suc n) bytes (rw eight h))
           ∙ ap (of_digits 256) (take-take (suc n) 8 (drop at s) h)
 
-      pub word-answer : 128 ≤ get_or s at 0 → let y = bit_and x (bit_xor (ends x) f) in
-          Read (groups8 y) (at + n + 1) (not (eqb (y / 2 ^ (8 * n)) 0)) ≡ uvarint_answer s at
+      pub word-answer : 128 ≤ get_or s at 0 → let y = bit_and x (bit_xor (ends x) (below_ends x)) in
+          was_read (groups8 y) (at + n + 1) (not (eqb (y / 2 ^ (8 * n)) 0)) ≡ read_uvarint s at
       word-answer first =
           let h : n < 8 = word-place in
           let p : 0 < n = stop-after r (rw (get_or-take 8 (drop at s) 0 0 (zero-lt-suc 7), get_or-drop at s 0 0, add-zero at) first) in

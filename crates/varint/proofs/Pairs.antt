@@ -81,9 +81,9 @@ low-group u = omega arith
 high-group : (u : ℕ) → u % 65536 / 256 % 128 ≡ u / 256 % 128
 high-group u = omega arith
 
-pub groups-are : (x : ℕ) → quads (bit_and x 35747867511423103 + bit_and x 9151454082924314368 / 2) ≡ groups8 x
+pub groups_are : (x : ℕ) → quads (bit_and x 35747867511423103 + bit_and x 9151454082924314368 / 2) ≡ groups8 x
 unfolding digits pair
-groups-are x =
+groups_are x =
     ap quads (pairs-are x)
     ∙ quads-are _ _ _ _ (all_map pair (all-by (digits 65536 4 x) 0 λ i _. pair_lt (get_or (digits 65536 4 x) i 0)))
     ∙ simp (byte-group, low-group, high-group, div-div-eq-div-mul) (spread _ _ _ _ _ _ _ _)

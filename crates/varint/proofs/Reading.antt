@@ -1,18 +1,13 @@
 -- Reading a varint byte by byte, as `read_uvarint` and the loop of `read_long` do: the walk to the end goes on from the next place, and the value so far is
 -- that of the bytes passed. `Reading`, of specs/, is the loop's invariant; the other laws give it at the start, keep it for a turn, and give the answer at each exit.
-use Rattle.std.proofs.Common.{◌≡◌, ℕ, suc, ◌+◌, ◌-◌, ◌*◌, ◌%◌, ◌^◌, ◌<◌, ◌≤◌, true, not, eqb, List, [], ◌∷◌, ◌++◌, map, length, get_or, take, drop, sym, refl, ap, ◌∙◌, le_refl, mul_comm, add-one, arith, drop_of_length-le, length-take-le, drop-cons, take-suc, le-ltb, lt-ltb, eq-eqb, ne_eqb}
+use Rattle.std.proofs.Common.{◌≡◌, ℕ, suc, ◌+◌, ◌-◌, ◌*◌, ◌%◌, ◌^◌, ◌<◌, ◌≤◌, Bool, true, not, eqb, List, [], ◌∷◌, ◌++◌, map, length, get_or, take, drop, sym, refl, ap, ◌∙◌, le_refl, mul_comm, add-one, arith, drop_of_length-le, length-take-le, drop-cons, take-suc, le-ltb, lt-ltb, eq-eqb, ne_eqb}
 use mathlib.Core.List.{map-append}
 use lib.ListN.{length-map}
 use lib.Seq.{slice, slice_empty, length-slice, drop-append-le}
 use Rattle.format.specs.Outcome.{Outcome, refused, ok, ◌>>=◌}
 use Rattle.format.specs.Digits.{of_digits}
-use Rattle.format.specs.Keys.{unzigzag}
-use Rattle.format.specs.Varint.{uvarint_end, uvarint_value, ends_unpadded, UvarintRead, read_uvarint}
-use Rattle.format.specs.Standalone.{uvarint_answer_of, uvarint_answer, varint_answer_of, varint_answer}
-use Rattle.format.specs.declared.UvarintAnswer.{UvarintAnswer}
-use Rattle.format.specs.declared.UvarintAnswer.TheVariants.{Read, Malformed}
-use Rattle.format.specs.declared.VarintAnswer.{VarintAnswer}
-use Rattle.format.specs.declared.VarintAnswer.TheVariants.{Read as SignedRead, Malformed as SignedMalformed}
+use Rattle.format.specs.Varint.{uvarint_end, uvarint_value, ends_unpadded, read_uvarint}
+use Rattle.format.specs.declared.Uvarint.{Uvarint}
 use Rattle.format.proofs.Numbers.Digits.{of_digits-append}
 use Rattle.format.proofs.Numbers.Widths.{pow-128}
 use Rattle.varint.specs.Reading.{Reading}
@@ -69,20 +64,24 @@ value-first s at h =
 
 -- ---- the answer, where the walk ends
 
--- what reading finds in s from `at` on, by what the walk to the end finds
-abbrev found : List ℕ → ℕ → Outcome ℕ → UvarintAnswer
-found s at end = uvarint_answer_of (end >>= (λ next. ok (record { value = uvarint_value s at next; next = next; unpadded = ends_unpadded s at next })))
+-- a varint that was read
+abbrev pub was_read : ℕ → ℕ → Bool → Outcome Uvarint
+was_read value next unpadded = ok (record { value = value; next = next; unpadded = unpadded })
 
-answer : (s : List ℕ) (at : ℕ) {end : Outcome ℕ} → uvarint_end at 10 (drop at s) at ≡ end → found s at end ≡ uvarint_answer s at
-unfolding uvarint_answer read_uvarint
+-- what reading finds in s from `at` on, by what the walk to the end finds
+abbrev found : List ℕ → ℕ → Outcome ℕ → Outcome Uvarint
+found s at end = end >>= λ next. was_read (uvarint_value s at next) next (ends_unpadded s at next)
+
+answer : (s : List ℕ) (at : ℕ) {end : Outcome ℕ} → uvarint_end at 10 (drop at s) at ≡ end → found s at end ≡ read_uvarint s at
+unfolding read_uvarint
 answer s at e = sym (ap (found s at) e)
 
 -- no byte
-pub answer-none : (s : List ℕ) (at : ℕ) → length s ≤ at → Malformed 6 at ≡ uvarint_answer s at
+pub answer-none : (s : List ℕ) (at : ℕ) → length s ≤ at → refused 6 at ≡ read_uvarint s at
 answer-none s at h = answer s at (end_none s at at 10 h)
 
 -- one byte
-pub answer-one : (s : List ℕ) (at : ℕ) → at < length s → get_or s at 0 < 128 → Read (get_or s at 0) (at + 1) true ≡ uvarint_answer s at
+pub answer-one : (s : List ℕ) (at : ℕ) → at < length s → get_or s at 0 < 128 → was_read (get_or s at 0) (at + 1) true ≡ read_uvarint s at
 unfolding ends_unpadded
 answer-one s at h b =
     let v : get_or s at 0 ≡ uvarint_value s at (at + 1) = omega (arith, value-first s at h) in
@@ -90,7 +89,7 @@ answer-one s at h b =
 
 -- the last byte is at pos, and not the first
 pub answer-more : (s : List ℕ) (at pos : ℕ) → at < pos → uvarint_end at 10 (drop at s) at ≡ ok (pos + 1)
-    → Read (uvarint_value s at (pos + 1)) (pos + 1) (not (eqb (get_or s pos 0) 0)) ≡ uvarint_answer s at
+    → was_read (uvarint_value s at (pos + 1)) (pos + 1) (not (eqb (get_or s pos 0) 0)) ≡ read_uvarint s at
 unfolding ends_unpadded
 answer-more s at pos h e =
     let n : pos + 1 ≡ at + 1 → ⊥ = λ p. omega arith in
@@ -134,38 +133,23 @@ module _ {s : List ℕ} {at value pos shift : ℕ} (r : Reading s at value pos s
 
   -- it is the last
   pub answer-last : pos < at + 10 → pos < length s → get_or s pos 0 < 128
-      → Read (summed value (get_or s pos 0 % 128) shift) (pos + 1) (not (eqb (get_or s pos 0) 0)) ≡ uvarint_answer s at
+      → was_read (summed value (get_or s pos 0 % 128) shift) (pos + 1) (not (eqb (get_or s pos 0) 0)) ≡ read_uvarint s at
   answer-last l h b = rw (summed-is h) (answer-more s at pos r.begun (walk-next l ∙ end-last s at pos (r.left - 1) h b))
 
   -- the bytes end
-  pub answer-cut : length s ≤ pos → Malformed 6 at ≡ uvarint_answer s at
+  pub answer-cut : length s ≤ pos → refused 6 at ≡ read_uvarint s at
   answer-cut h = answer s at (r.walk ∙ end_none s at pos r.left h)
 
   -- ten bytes were read, and none was the last
-  pub answer-long : at + 10 ≤ pos → pos < length s → Malformed 7 at ≡ uvarint_answer s at
+  pub answer-long : at + 10 ≤ pos → pos < length s → refused 7 at ≡ read_uvarint s at
   answer-long l h =
       let z : r.left ≡ 0 = omega (arith, r.places) in
       answer s at ((rw z at r.walk) ∙ end-eleventh s at pos h)
 
 -- a second byte that is the last
 pub answer-two : (s : List ℕ) (at : ℕ) → at + 1 < length s → 128 ≤ get_or s at 0 → get_or s (at + 1) 0 < 128
-    → Read (get_or s at 0 % 128 + get_or s (at + 1) 0 * 128) (at + 2) (not (eqb (get_or s (at + 1) 0) 0)) ≡ uvarint_answer s at
+    → was_read (get_or s at 0 % 128 + get_or s (at + 1) 0 * 128) (at + 2) (not (eqb (get_or s (at + 1) 0) 0)) ≡ read_uvarint s at
 answer-two s at h b c =
     let v : get_or s at 0 % 128 + get_or s (at + 1) 0 * 128 ≡ summed (get_or s at 0 % 128) (get_or s (at + 1) 0 % 128) 7 = omega arith in
     let n : at + 2 ≡ at + 1 + 1 = omega arith in
     rw (v, n) (answer-last (begin s at (omega arith) b) (omega arith) h c)
-
--- ---- signed
-
--- the signed answer, by the unsigned one
-abbrev pub signed_of : UvarintAnswer → VarintAnswer
-signed_of (Read value next unpadded) = SignedRead (unzigzag value) next unpadded
-signed_of (Malformed number offset) = SignedMalformed number offset
-
-pub signed-answer : (s : List ℕ) (at : ℕ) → signed_of (uvarint_answer s at) ≡ varint_answer s at
-unfolding uvarint_answer varint_answer
-signed-answer s at = go (read_uvarint s at)
-  where
-    go : (o : Outcome UvarintRead) → signed_of (uvarint_answer_of o) ≡ varint_answer_of o
-    go (refused number offset) = refl
-    go (ok v) = refl

@@ -7,8 +7,8 @@ ghost use Rattle.varint.specs.Reading.{Reading};
 ghost use Rattle.varint.specs.Finding.{Walked, found_at};
 
 use crate::long::read_rest;
-use crate::words::{group, wide};
-use format::UvarintAnswer;
+use crate::words::group;
+use format::Uvarint;
 
 // The value of a varint, and the place after it; 0 and 0 of one that is refused.
 #[derive(Clone, Copy)]
@@ -27,11 +27,11 @@ pub fn find_any(bytes: &[u8], at: usize) -> Found
     let only = bytes[at];
     if only < 128 {
         return Found {
-            value: wide(only),
+            value: u64::from(only),
             next: at + 1,
         };
     }
-    let UvarintAnswer::Read(value, next, _) = read_rest(bytes, at) else {
+    let Ok(Uvarint { value, next, .. }) = read_rest(bytes, at) else {
         return Found { value: 0, next: 0 };
     };
     Found { value, next }
@@ -41,7 +41,7 @@ pub fn find_any(bytes: &[u8], at: usize) -> Found
 fn more_of(b: u8) -> usize
     ensures { (result ≡ b / 128) × (result < 2) }
 {
-    (b / 128) as usize
+    usize::from(b / 128)
 }
 
 // A varint of more than eight bytes, which are worth `low`.
@@ -55,9 +55,9 @@ fn find_long(bytes: &[u8], at: usize, low: u64) -> Found
     if last >= 128 {
         return Found { value: 0, next: 0 };
     }
-    let value = std::num::wrapping_add_u64(low, group(ninth) << 56);
+    let value = low.wrapping_add(group(ninth) << 56);
     Found {
-        value: std::num::wrapping_add_u64(value, (group(last) * more as u64) << 63),
+        value: value.wrapping_add((group(last) * more as u64) << 63),
         next: at + 9 + more,
     }
 }
@@ -75,14 +75,14 @@ pub fn find_uvarint(bytes: &[u8], at: usize) -> Found
     let first = bytes[at];
     if first < 128 {
         return Found {
-            value: wide(first),
+            value: u64::from(first),
             next: at + 1,
         };
     }
     let mut value = group(first);
     for k in 1..8 {
         let b = bytes[at + k];
-        value = std::num::wrapping_add_u64(value, group(b) << (7 * k as u32));
+        value = value.wrapping_add(group(b) << (7 * k as u32));
         if b < 128 {
             return Found {
                 value,

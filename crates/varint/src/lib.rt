@@ -3,12 +3,13 @@
 #![tactic(auto)]
 
 ghost use Rattle.std.specs.Prelude.{◌≡◌, length, nat_lt};
-ghost use Rattle.format.specs.Varint.{uvarint_len, varint_len};
-ghost use Rattle.format.specs.Standalone.{uvarint_answer, varint_answer, uvarint_write_answer, uvarint_write_output, varint_write_answer, varint_write_output};
+ghost use Rattle.format.specs.Answers.{outcome_of};
+ghost use Rattle.format.specs.Varint.{uvarint_len, varint_len, read_uvarint};
+ghost use Rattle.format.specs.Standalone.{read_varint, uvarint_write_answer, uvarint_write_output, varint_write_answer, varint_write_output};
 
 use crate::long::read_rest;
-use crate::words::{group, wide};
-use format::{Answer, UvarintAnswer, VarintAnswer};
+use crate::words::group;
+use format::{Kind, Refusal, Uvarint, Varint};
 
 pub mod find;
 pub(crate) mod long;
@@ -37,6 +38,7 @@ pub fn uvarint_len_small(value: u64) -> usize
 }
 
 // How many bytes `write_varint` stores.
+#[tactic(auto, unfolding(format::specs::Varint::varint_len))]
 pub fn varint_len(value: i64) -> usize
     ensures { result ≡ varint_len value }
 {
@@ -45,38 +47,44 @@ pub fn varint_len(value: i64) -> usize
 
 // Reads the varint that begins at a place, past the end or not. Most are of one byte, which is asked first, or of two. This much
 // the compiler inlines into a caller's loop; a longer one costs a call.
-pub fn read_uvarint(bytes: &[u8], at: usize) -> UvarintAnswer
-    ensures { result ≡ uvarint_answer bytes.now at }
+pub fn read_uvarint(bytes: &[u8], at: usize) -> Result<Uvarint, Refusal>
+    ensures { outcome_of result ≡ read_uvarint bytes.now at }
 {
     if bytes.len() <= at {
-        return UvarintAnswer::Malformed(format::refusal::VARINT_CUT, at);
+        return Err(Kind::VarintCut.at(at));
     }
     let b = bytes[at];
     if b < 128 {
-        return UvarintAnswer::Read(b as u64, at + 1, true);
+        return Ok(Uvarint {
+            value: u64::from(b),
+            next: at + 1,
+            unpadded: true,
+        });
     }
     if 2 <= bytes.len() - at {
         let c = bytes[at + 1];
         if c < 128 {
-            return UvarintAnswer::Read(group(b) + wide(c) * 128, at + 2, c != 0);
+            return Ok(Uvarint {
+                value: group(b) + u64::from(c) * 128,
+                next: at + 2,
+                unpadded: c != 0,
+            });
         }
     }
     read_rest(bytes, at)
 }
 
 // The same for a signed varint.
-pub fn read_varint(bytes: &[u8], at: usize) -> VarintAnswer
-    ensures { result ≡ varint_answer bytes.now at }
+#[tactic(auto, unfolding(format::specs::Standalone::read_varint))]
+pub fn read_varint(bytes: &[u8], at: usize) -> Result<Varint, Refusal>
+    ensures { outcome_of result ≡ read_varint bytes.now at }
 {
-    let answer = read_uvarint(bytes, at);
-    match answer {
-        UvarintAnswer::Read(value, next, unpadded) => VarintAnswer::Read(
-            number::zigzag_decode(value),
-            next,
-            unpadded,
-        ),
-        UvarintAnswer::Malformed(number, offset) => VarintAnswer::Malformed(number, offset),
-    }
+    let read = read_uvarint(bytes, at)?;
+    Ok(Varint {
+        value: number::zigzag_decode(read.value),
+        next: read.next,
+        unpadded: read.unpadded,
+    })
 }
 
 // Whether `space` bytes are too few for a varint. It is measured only where they are fewer than ten, which is enough for any.
@@ -90,12 +98,12 @@ fn too_short(space: usize, value: u64) -> bool
 }
 
 // Stores a varint at the front of `out`; refused, with the length needed, it stores nothing.
-pub fn write_uvarint(value: u64, out: &mut [u8]) -> Answer
-    ensures value { result ≡ uvarint_write_answer value (length out.old) }
+pub fn write_uvarint(value: u64, out: &mut [u8]) -> Result<usize, Refusal>
+    ensures value { outcome_of result ≡ uvarint_write_answer value (length out.old) }
     ensures out_after { out.new ≡ uvarint_write_output value out.old }
 {
     if too_short(out.len(), value) {
-        return Answer::Refused(format::refusal::BUFFER_TOO_SHORT, uvarint_len(value));
+        return Err(Kind::BufferTooShort.at(uvarint_len(value)));
     }
     let mut rest = value;
     let mut pos = 0;
@@ -105,12 +113,13 @@ pub fn write_uvarint(value: u64, out: &mut [u8]) -> Answer
         pos += 1;
     }
     out[pos] = rest as u8;
-    Answer::Accepted(pos + 1)
+    Ok(pos + 1)
 }
 
 // The same for a signed varint.
-pub fn write_varint(value: i64, out: &mut [u8]) -> Answer
-    ensures value { result ≡ varint_write_answer value (length out.old) }
+#[tactic(auto, unfolding(format::specs::Standalone::varint_write_answer, format::specs::Standalone::varint_write_output))]
+pub fn write_varint(value: i64, out: &mut [u8]) -> Result<usize, Refusal>
+    ensures value { outcome_of result ≡ varint_write_answer value (length out.old) }
     ensures out_after { out.new ≡ varint_write_output value out.old }
 {
     write_uvarint(number::zigzag_encode(value), out)

@@ -2,4 +2,3 @@
 pub mod Measuring
 pub mod Turns
 pub mod Scanning
-pub mod Chunks

@@ -3,7 +3,7 @@
 use mathlib.Core.Path.{◌≡◌, refl}
 use mathlib.Core.List.{List, [], ◌∷◌}
 use Prim.Native.Nat.{ℕ, ◌+◌, ◌*◌, ◌/◌, ◌^◌, ◌≤◌, ◌<◌, min}
-use native.Mathlib.Nat.{zero-lt-suc, suc-mul, mul_comm, div-eq_of_lt, le-div_iff_mul-le, pow-le-pow_right, one-le-pow}
+use native.Mathlib.Nat.{zero-lt-suc, suc-mul, mul_comm, div-eq_of_lt, le-div_iff_mul-le, pow-le-pow_right, one-le-pow, mul-le-mul}
 use native.Mathlib.Numerals.{add-one}
 use native.Mathlib.Decide.{dec_lt}
 use native.Mathlib.Omega.{arith}
@@ -11,6 +11,7 @@ use lib.Bits.{bit_or, and_le_l, and_le_r, or_add_and}
 use lib.IntN.{ℤ, pos}
 use lib.ListN.{length, get_or, drop, drop_of_length-le, length-append}
 use lib.Seq.{drop-cons}
+use Rattle.format.specs.Encodings.{max_chunk_elements}
 use Rattle.format.specs.Header.{header_len}
 use Rattle.format.specs.Keys.{zigzag}
 use Rattle.format.specs.Varint.{uvarint_len, varint_len}
@@ -31,35 +32,43 @@ or_right a b = omega (arith, or_add_and a b, and_le_l a b)
 
 -- ---- at most
 
-pub body-most : (column : List ℤ) → length (varint_body column) ≤ 10 * length column
+pub body_most : (column : List ℤ) → length (varint_body column) ≤ 10 * length column
 unfolding varint_body
-body-most [] = omega arith
-body-most (v ∷ vs) = simp (length-append, length-varint_bytes) (omega (arith, varint_len-le v, body-most vs))
+body_most [] = omega arith
+body_most (v ∷ vs) = simp (length-append, length-varint_bytes) (omega (arith, varint_len-le v, body_most vs))
 
 -- the length of the longest for each
-pub body-longest : (column : List ℤ) (bits : ℕ) → bits < 2 ^ 64 → Within column bits → length (varint_body column) ≤ uvarint_len bits * length column
+pub body_longest : (column : List ℤ) (bits : ℕ) → bits < 2 ^ 64 → Within column bits → length (varint_body column) ≤ uvarint_len bits * length column
 unfolding varint_body varint_len
-body-longest column bits b w = rw (mul_comm (uvarint_len bits) (length column)) (go (all-by column (pos 0) w))
+body_longest column bits b w = rw (mul_comm (uvarint_len bits) (length column)) (go (all-by column (pos 0) w))
   where
     go : {column : List ℤ} → All (λ v. zigzag v ≤ bits) column → length (varint_body column) ≤ length column * uvarint_len bits
     go all_none = omega arith
     go (all_more {x} {xs} h r) = simp (length-append, length-varint_bytes, suc-mul) (omega (arith, uvarint_len-mono (zigzag x) bits h b, go r))
 
+-- which is ten at most
+pub longest_most : (bits count : ℕ) → count ≤ max_chunk_elements → uvarint_len bits * count ≤ 10 * max_chunk_elements
+longest_most bits count few = mul-le-mul (uvarint_len-le bits) few
+
 -- a header has twelve bytes at most
-pub header-most : (count : ℕ) → header_len count ≤ 12
+pub header_most : (count : ℕ) → header_len count ≤ 12
 unfolding header_len
-header-most count = omega (arith, uvarint_len-le count)
+header_most count = omega (arith, uvarint_len-le count)
 
 -- ---- byte by byte
 
-module _ (shift : ℕ) (column : List ℤ) (i : ℕ) where
-  pub longer-end : length column ≤ i → longer shift (drop i column) ≡ 0
-  unfolding longer
-  longer-end h = rw (drop_of_length-le column h)
+-- a varint has one byte at least and ten at most
+pub longest : (bits : ℕ) → (1 ≤ uvarint_len bits) × (uvarint_len bits ≤ 10)
+longest bits = (uvarint_len-pos bits, uvarint_len-le bits)
 
-  pub longer-more : i < length column → longer shift (drop i column) ≡ min (zigzag (get_or column i (pos 0)) / 2 ^ shift) 1 + longer shift (drop (i + 1) column)
+module _ (shift : ℕ) (column : List ℤ) (i : ℕ) where
+  pub longer_end : length column ≤ i → longer shift (drop i column) ≡ 0
   unfolding longer
-  longer-more h = rw (add-one i, drop-cons column i (pos 0))
+  longer_end h = rw (drop_of_length-le column h)
+
+  pub longer_more : i < length column → longer shift (drop i column) ≡ min (zigzag (get_or column i (pos 0)) / 2 ^ shift) 1 + longer shift (drop (i + 1) column)
+  unfolding longer
+  longer_more h = rw (add-one i, drop-cons column i (pos 0))
 
 -- the k + 1st byte of a varint
 byte_more : (x k : ℕ) → x < 2 ^ 64 → 1 ≤ k → min (uvarint_len x) (k + 1) ≡ min (uvarint_len x) k + min (x / 2 ^ (7 * k)) 1
@@ -77,30 +86,30 @@ byte_more x k b some = rw (mul_comm 7 k, ← pow-pow 2 7 k) (go (dec_lt x (128 ^
         omega (arith, more long (dec_lt k (uvarint_len x)), (le-div_iff_mul-le (one-le-pow k 128 (zero-lt-suc 127))).1 one)
 
 -- a byte for each
-pub capped-one : (column : List ℤ) → capped 1 column ≡ length column
+pub capped_one : (column : List ℤ) → capped 1 column ≡ length column
 unfolding capped varint_len
-capped-one [] = omega arith
-capped-one (v ∷ vs) = omega (arith, uvarint_len-pos (zigzag v), capped-one vs)
+capped_one [] = omega arith
+capped_one (v ∷ vs) = omega (arith, uvarint_len-pos (zigzag v), capped_one vs)
 
-pub capped-most : (k : ℕ) (column : List ℤ) → capped k column ≤ 10 * length column
+pub capped_most : (k : ℕ) (column : List ℤ) → capped k column ≤ 10 * length column
 unfolding capped
-capped-most k [] = omega arith
-capped-most k (v ∷ vs) = omega (arith, varint_len-le v, capped-most k vs)
+capped_most k [] = omega arith
+capped_most k (v ∷ vs) = omega (arith, varint_len-le v, capped_most k vs)
 
 module _ (bits : ℕ) (b : bits < 2 ^ 64) where
   -- a byte more for some
-  pub capped-more : (k : ℕ) (column : List ℤ) → 1 ≤ k → Within column bits → capped (k + 1) column ≡ capped k column + longer (7 * k) column
+  pub capped_more : (k : ℕ) (column : List ℤ) → 1 ≤ k → Within column bits → capped (k + 1) column ≡ capped k column + longer (7 * k) column
   unfolding capped longer varint_len
-  capped-more k column some w = go (all-by column (pos 0) w)
+  capped_more k column some w = go (all-by column (pos 0) w)
     where
       go : {column : List ℤ} → All (λ v. zigzag v ≤ bits) column → capped (k + 1) column ≡ capped k column + longer (7 * k) column
       go all_none = omega arith
       go (all_more {x} {xs} h r) = omega (arith, byte_more (zigzag x) k (omega arith) some, go r)
 
   -- all bytes
-  pub capped-all : (column : List ℤ) → Within column bits → capped (uvarint_len bits) column ≡ length (varint_body column)
+  pub capped_all : (column : List ℤ) → Within column bits → capped (uvarint_len bits) column ≡ length (varint_body column)
   unfolding capped varint_body varint_len
-  capped-all column w = go (all-by column (pos 0) w)
+  capped_all column w = go (all-by column (pos 0) w)
     where
       go : {column : List ℤ} → All (λ v. zigzag v ≤ bits) column → capped (uvarint_len bits) column ≡ length (varint_body column)
       go all_none = refl

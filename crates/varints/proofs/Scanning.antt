@@ -13,23 +13,23 @@ use lib.Seq.{drop-cons, drop-drop, drop-append-le, get_or-drop}
 use borrow.Author.Tests.{lt-ltb, le-ltb}
 use Rattle.format.specs.Outcome.{ok}
 use Rattle.format.specs.Parts.{settled}
-use Rattle.format.specs.Varint.{Extent, uvarint_end, ends_unpadded, read_uvarint, first_padded, validate_uvarints}
-use Rattle.format.specs.declared.Padded.{Padded}
-use Rattle.codec.specs.Refusals.{extent}
-use Rattle.codec.proofs.Settling.{settled-loose}
+use Rattle.format.specs.Read.{strict_checks}
+use Rattle.format.specs.declared.Extent.{Extent}
+use Rattle.format.specs.Varint.{uvarint_end, ends_unpadded, read_uvarint, first_padded, validate_uvarints}
 use Rattle.varints.specs.Readable.{Passes}
 use Rattle.varints.specs.Scans.{last, lasts, least5, least10, NoTen}
+use Rattle.std.specs.Prelude.{Option}
 
 -- ---- the loop that counts
 
 module _ (bytes : List ℕ) (i : ℕ) where
-  pub lasts-end : length bytes ≤ i → lasts (drop i bytes) ≡ 0
+  pub lasts_end : length bytes ≤ i → lasts (drop i bytes) ≡ 0
   unfolding lasts
-  lasts-end h = rw (drop_of_length-le bytes h)
+  lasts_end h = rw (drop_of_length-le bytes h)
 
-  pub lasts-more : i < length bytes → lasts (drop i bytes) ≡ last (get_or bytes i 0) + lasts (drop (i + 1) bytes)
+  pub lasts_more : i < length bytes → lasts (drop i bytes) ≡ last (get_or bytes i 0) + lasts (drop (i + 1) bytes)
   unfolding lasts
-  lasts-more h = rw (add-one i, drop-cons bytes i 0)
+  lasts_more h = rw (add-one i, drop-cons bytes i 0)
 
 -- ---- a byte that ends a varint
 
@@ -97,7 +97,7 @@ ended start (suc left) (b ∷ l) t at some stop = go (dec_lt b 128) (ended start
 
 -- ---- all of them
 
-rows-read : (s : List ℕ) (n at : ℕ) (l t : List ℕ) (padded : Padded) → drop at s ≡ l ++ t → Stops l → n ≤ lasts l → (x : Extent) × (validate_uvarints s at n padded ≡ ok x)
+rows-read : (s : List ℕ) (n at : ℕ) (l t : List ℕ) (padded : Option ℕ) → drop at s ≡ l ++ t → Stops l → n ≤ lasts l → (x : Extent) × (validate_uvarints s at n padded ≡ ok x)
 unfolding validate_uvarints read_uvarint
 rows-read s zero at l t padded e h many = (record { end = at; padded = padded }, refl)
 rows-read s (suc n) at l t padded e h many =
@@ -116,8 +116,7 @@ scanned s start k n h padded =
 
 -- ---- what is not looked at
 
-pub settled-passed : {strict : Bool} (s : List ℕ) (start count end : ℕ) (padded : Padded) (room : ℕ) → strict ≡ false → Passes s start count
-    → settled strict s count room (ok (extent end padded)) ≡ settled strict s count room (validate_uvarints s start count padded)
-settled-passed s start count end padded room loose passes =
-    let x = passes padded in
-    settled-loose s count room end padded loose ∙ sym (settled-loose s count room x.0.end x.0.padded loose) ∙ ap (settled _ s count room) (sym x.1)
+pub settled-passed : {strict : Bool} (s : List ℕ) (start count : ℕ) → strict ≡ false → Passes s start count → (x : Extent) (padded : Option ℕ) (room : ℕ)
+    → settled strict s count room (ok x) ≡ settled strict s count room (validate_uvarints s start count padded)
+unfolding settled strict_checks
+settled-passed s start count loose passes x padded room = rw (loose, (passes padded).1)

@@ -1,6 +1,6 @@
 // Whether varints in a row can be read, asked of all their bytes at once: enough bytes end a varint, and no ten in a row are
 // continued. The compiler makes vector code of the two loops, which is faster than to walk from varint to varint.
-ghost use Rattle.std.specs.Prelude.{◌≡◌, true, ℕ, ◌+◌, ◌*◌, ◌≤◌, min, max, length};
+ghost use Rattle.std.specs.Prelude.{◌≡◌, true, ℕ, ◌+◌, ◌*◌, ◌≤◌, length};
 ghost use Rattle.format.specs.Encodings.{max_chunk_elements};
 ghost use Rattle.varints.specs.Readable.{Passes};
 ghost use Rattle.varints.specs.Scans.{last, lasts, least5, least10, NoTen};
@@ -13,55 +13,43 @@ fn last_of(byte: u8) -> u32
 }
 
 // How many bytes end a varint.
+#[tactic(auto, using(crate::proofs::Scanning::lasts_end, crate::proofs::Scanning::lasts_more))]
 fn last_bytes(bytes: &[u8]) -> u32
     requires { length bytes.now ≤ 10 * max_chunk_elements }
     ensures { result ≡ lasts bytes.now }
 {
-    let mut count: u32 = 0;
-    for i in 0..bytes.len() {
-        count += last_of(bytes[i]);
+    let mut count = 0;
+    for &byte in bytes {
+        count += last_of(byte);
     }
     count
 }
 
-fn lesser(a: u8, b: u8) -> u8
-    ensures { result ≡ min a b }
-{
-    if a < b { a } else { b }
-}
-
-fn greater(a: u8, b: u8) -> u8
-    ensures { result ≡ max a b }
-{
-    if a < b { b } else { a }
-}
-
+#[tactic(auto, unfolding(crate::specs::Scans::least5))]
 fn least_of_five(bytes: &[u8], i: usize) -> u8
     requires { i + 5 ≤ length bytes.now }
     ensures { result ≡ least5 bytes.now i }
 {
-    let high = lesser(bytes[i + 3], bytes[i + 4]);
-    lesser(bytes[i], lesser(bytes[i + 1], lesser(bytes[i + 2], high)))
+    let high = bytes[i + 3].min(bytes[i + 4]);
+    bytes[i].min(bytes[i + 1].min(bytes[i + 2].min(high)))
 }
 
 // The least of ten bytes in a row.
+#[tactic(auto, unfolding(crate::specs::Scans::least10))]
 fn least_of_ten(bytes: &[u8], i: usize) -> u8
     requires { i + 10 ≤ length bytes.now }
     ensures { result ≡ least10 bytes.now i }
 {
-    lesser(least_of_five(bytes, i), least_of_five(bytes, i + 5))
+    least_of_five(bytes, i).min(least_of_five(bytes, i + 5))
 }
 
 // The greatest such least: 128 or more if ten bytes in a row are continued.
 fn greatest_of_tens(bytes: &[u8]) -> u8
     ensures { (i : ℕ) → i + 10 ≤ length bytes.now → least10 bytes.now i ≤ result }
 {
-    if bytes.len() < 10 {
-        return 0;
-    }
-    let mut most = 0;
-    for i in 0..bytes.len() - 9 {
-        most = greater(most, least_of_ten(bytes, i));
+    let mut most: u8 = 0;
+    for last in 9..bytes.len() {
+        most = most.max(least_of_ten(bytes, last - 9));
     }
     most
 }
@@ -71,17 +59,7 @@ fn rows(bytes: &[u8], count: usize) -> bool
     requires { length bytes.now ≤ 10 * max_chunk_elements }
     ensures { result ≡ true → (count ≤ lasts bytes.now) × NoTen bytes.now }
 {
-    if (last_bytes(bytes) as usize) < count {
-        return false;
-    }
-    greatest_of_tens(bytes) < 128
-}
-
-// A place, or the end.
-fn place(at: usize, len: usize) -> usize
-    ensures { result ≡ min at len }
-{
-    if at < len { at } else { len }
+    count <= last_bytes(bytes) as usize && greatest_of_tens(bytes) < 128
 }
 
 // Whether `count` varints can surely be read from `start` on. They have ten bytes each at most; what is after these does not matter.
@@ -89,6 +67,6 @@ pub(crate) fn readable(chunk: &[u8], start: usize, count: usize) -> bool
     requires { (start ≤ length chunk.now) × (count ≤ max_chunk_elements) }
     ensures { result ≡ true → Passes chunk.now start count }
 {
-    let end = place(start + 10 * count, chunk.len());
+    let end = (start + 10 * count).min(chunk.len());
     rows(&chunk[start..end], count)
 }

@@ -60,7 +60,7 @@ def keys(values):
 
 
 def answer(given, count):
-    return f"Accepted {count}" if given.number == 0 else f"Refused {given.number} {given.offset}"
+    return f"ok {count}" if given.number == 0 else f"refused {given.number} {given.offset}"
 
 
 def fields(**terms):
@@ -111,8 +111,8 @@ def of_varint_read(r):
         return f"refused {r.answer.number} {r.answer.offset}" if r.answer.number else f"ok ({value}, {r.next})"
 
     asked, case = f"{numbers(r.data)} {r.place}", f"{hexed(r.data)} read at {r.place}"
-    yield equation("uvarint_answer", ALONE, f"unsigned_read (uvarint_answer {asked})", outcome(r.value), case)
-    yield equation("varint_answer", ALONE, f"signed_read (varint_answer {asked})", outcome(key(r.signed)), case)
+    yield equation("read_uvarint", ALONE, f"unsigned_read (read_uvarint {asked})", outcome(r.value), case)
+    yield equation("read_varint", ALONE, f"signed_read (read_varint {asked})", outcome(key(r.signed)), case)
 
 
 def of_packing(r):
@@ -136,7 +136,7 @@ def of_unpacking(r):
 
 def of_packed_length(r):
     case = f"{r.count} values, width {r.width}"
-    yield equation("packed_len_answer", ALONE, f"packed_len_answer {r.count} {r.width}", f"Accepted {r.length}", case)
+    yield equation("packed_len_answer", ALONE, f"packed_len_answer {r.count} {r.width}", f"ok {r.length}", case)
 
 
 def of_packed_many(r):
@@ -164,7 +164,9 @@ def statistics(s):
 
 
 def estimates(c):
-    return fields(lengths=numbers(c.lengths), available=items(str(a).lower() for a in c.available))
+    # The Rust tells 0 for a length that is not available; any other would be one that the definitions have no place for.
+    assert all(available or length == 0 for length, available in zip(c.lengths, c.available))
+    return fields(lengths=items(f"Some {n}" if available else "None" for n, available in zip(c.lengths, c.available)))
 
 
 def plan(c, p):
@@ -194,7 +196,7 @@ def of_stored_chunks(c, column, case):
     for id, (name, chunk) in enumerate(zip(stored.ENCODINGS, c.chunks), 1):
         asked, length, so = f"{id} {column} {len(c.keys)}", len(chunk), f"{case} in {name}"
         yield of_bytes("chunk_of", WRITING, f"chunk_of {name} {column}", chunk, so)
-        yield equation("write_answer", WRITING, f"write_answer {asked} {length}", f"Accepted {length}", so)
+        yield equation("write_answer", WRITING, f"write_answer {asked} {length}", f"ok {length}", so)
         yield of_bytes("write_output", WRITING, f"write_output {asked} (replicate {length} 0)", chunk, so)
 
 

@@ -25,25 +25,22 @@ use Rattle.format.specs.Outcome.{Outcome, refused, ok}
 use Rattle.format.specs.Keys.{residue}
 use Rattle.format.specs.Header.{unnamed, named}
 use Rattle.format.specs.Read.{read_answer}
-use Rattle.format.specs.declared.Answer.{Answer}
-use Rattle.format.specs.declared.UvarintAnswer.{UvarintAnswer}
-use Rattle.format.specs.declared.UvarintAnswer.TheVariants.{Read, Malformed}
-use Rattle.format.specs.declared.VarintAnswer.{VarintAnswer}
-use Rattle.format.specs.declared.VarintAnswer.TheVariants.{Read as SignedRead, Malformed as SignedMalformed}
+use Rattle.format.specs.declared.Uvarint.{Uvarint}
+use Rattle.format.specs.declared.Varint.{Varint}
 
 -- the eight readings of a chunk
-unfoldable pub readings : List ℕ → ℕ → List Answer
+unfoldable pub readings : List ℕ → ℕ → List (Outcome ℕ)
 readings s room =
     map (λ naming. read_answer false naming s room) (unnamed ∷ named 1 ∷ named 2 ∷ named 3 ∷ named 4 ∷ named 5 ∷ named 6 ∷ named 7 ∷ [])
 
 -- a varint's answer without `unpadded`, which the Rust does not tell
-abbrev pub unsigned_read : UvarintAnswer → Outcome (ℕ × ℕ)
-unsigned_read (Read value next unpadded) = ok (value, next)
-unsigned_read (Malformed number offset) = refused number offset
+abbrev pub unsigned_read : Outcome Uvarint → Outcome (ℕ × ℕ)
+unsigned_read (ok read) = ok (read.value, read.next)
+unsigned_read (refused number offset) = refused number offset
 
-abbrev pub signed_read : VarintAnswer → Outcome (ℤ × ℕ)
-signed_read (SignedRead value next unpadded) = ok (value, next)
-signed_read (SignedMalformed number offset) = refused number offset
+abbrev pub signed_read : Outcome Varint → Outcome (ℤ × ℕ)
+signed_read (ok read) = ok (read.value, read.next)
+signed_read (refused number offset) = refused number offset
 
 -- the stored checksum: FNV-1a with 64 bits
 abbrev pub fnv : ℕ → List ℕ → ℕ
@@ -72,22 +69,22 @@ use mathlib.Core.List.{[], ◌∷◌}
 use lib.IntN.{pos, negsuc}
 use lib.ListN.{replicate}
 use lib.Ieee.{of_bits, binary64}
+use Rattle.std.specs.Prelude.{Some, None}
 use Rattle.format.specs.Outcome.{refused, ok}
 use Rattle.format.specs.Keys.{zigzag, unzigzag}
 use Rattle.format.specs.Width.{width}
-use Rattle.format.specs.Varint.{uvarint_len, uvarint_bytes, varint_len, varint_bytes}
+use Rattle.format.specs.Varint.{uvarint_len, uvarint_bytes, varint_len, varint_bytes, read_uvarint}
 use Rattle.format.specs.Packing.{packed, unpacked}
 use Rattle.format.specs.Answers.{number_of}
 use Rattle.format.specs.Header.{unnamed, named}
 use Rattle.format.specs.Chunk.{chunk_of}
 use Rattle.format.specs.Read.{read_column}
 use Rattle.format.specs.Write.{write_answer, write_output}
-use Rattle.format.specs.Standalone.{packed_len_answer, pack_answer, unpack_answer, uvarint_answer, varint_answer}
+use Rattle.format.specs.Standalone.{packed_len_answer, pack_answer, unpack_answer, read_varint}
 use Rattle.format.specs.Statistics.{stats_of, distinct_values}
 use Rattle.format.specs.Estimates.{estimates_of}
 use Rattle.format.specs.Plan.{plan_of}
-use Rattle.format.specs.declared.Answer.TheVariants.{Accepted, Refused}
-use Rattle.format.specs.declared.Encoding.TheVariants.{Plain, Varint, BitPacked, FrameOfReference, RunLength, Dictionary, DeltaBinaryPacked}
+use Rattle.format.specs.declared.encoding.Encoding.TheVariants.{Plain, Varint, BitPacked, FrameOfReference, RunLength, Dictionary, DeltaBinaryPacked}
 use Rattle.format.specs.declared.Sortedness.TheVariants.{Constant, Ascending, Descending, Unsorted}
 use Rattle.format.specs.declared.Cardinality.TheVariants.{Exact, AtLeast}
 use Rattle.format.specs.declared.PlanReason.TheVariants.{Empty, CompressionDisabled, SmallestEstimate, GainBelowThreshold}

@@ -5,8 +5,5 @@ use Rattle.bench.specs.Rows.{row_bytes}
 use Rattle.bench.proofs.Filled.{Filled}
 use Rattle.bench.proofs.bench_write_uvarints.Given as goal
 
-abbrev pub invariant-loop-i : goal.invariant-loop-i
-invariant-loop-i l = Filled (row_bytes l.values (length l.initial.out)) l.initial.out l.out l.at (row_bytes (drop l.i l.values) (length l.initial.out - l.at))
-
-abbrev pub decreases-loop-i : goal.decreases-loop-i
-decreases-loop-i l = length l.values - l.i
+abbrev pub invariant-loop-value : goal.invariant-loop-value
+invariant-loop-value l = Filled (row_bytes l.values (length l.initial.out)) l.initial.out l.out l.at (row_bytes (drop l.value-index l.values) (length l.initial.out - l.at))

@@ -3,7 +3,7 @@ use mathlib.Core.Path.{◌≡◌, refl, sym, ◌∙◌}
 use mathlib.Core.Bool.{true}
 use Prim.Native.Nat.{ℕ, zero-le}
 use lib.Dec.{leb}
-use borrow.Author.Tests.{le-leb, lt-leb}
+use borrow.Author.Tests.{le-leb}
 use Rattle.format.specs.Answers.{stored}
 use Rattle.format.specs.Standalone.{pack_answer, pack_output, pack_outcome}
 use Rattle.format.proofs.Numbers.Packing.{length-packed}
@@ -13,25 +13,11 @@ use Rattle.bitpack.proofs.pack.Goals as goal
 no-room-needed : (space : ℕ) → leb 0 space ≡ true
 no-room-needed space = le-leb 0 space zero-le
 
-pub returns-then-values-gt-MAX_CHUNK_ELEMENTS : goal.returns-then-values-gt-MAX_CHUNK_ELEMENTS
-unfolding pack_answer pack_output pack_outcome
-returns-then-values-gt-MAX_CHUNK_ELEMENTS c = simp (lt-leb _ _ c.if-values-gt-MAX_CHUNK_ELEMENTS.true) (refl, refl)
-
-pub returns-then-width-gt64 : goal.returns-then-width-gt64
-unfolding pack_answer pack_output pack_outcome
-returns-then-width-gt64 c = simp (le-leb _ _ c.if-values-gt-MAX_CHUNK_ELEMENTS.false, lt-leb _ _ c.if-width-gt64.true) (refl, refl)
-
 pub returns-then-needed-eq0 : goal.returns-then-needed-eq0
 unfolding pack_answer pack_output pack_outcome stored
 returns-then-needed-eq0 c =
     let none = sym c.bytes_for-needed.ensures ∙ c.if-needed-eq0.true in
     simp (le-leb _ _ c.if-values-gt-MAX_CHUNK_ELEMENTS.false, le-leb _ _ c.if-width-gt64.false, packed_none, none, no-room-needed) (refl, refl)
-
-pub returns-then-out-needed : goal.returns-then-out-needed
-unfolding pack_answer pack_output pack_outcome
-returns-then-out-needed c =
-    let needed = c.bytes_for-needed.ensures in
-    simp (le-leb _ _ c.if-values-gt-MAX_CHUNK_ELEMENTS.false, le-leb _ _ c.if-width-gt64.false, ← needed, lt-leb _ _ c.if-out-needed.true) (refl, refl)
 
 pub returns : goal.returns
 unfolding pack_answer pack_output pack_outcome stored

@@ -1,34 +1,12 @@
 -- The questions in their order; then the values, as many as were asked for, are stored.
 use mathlib.Core.Path.{refl}
 use native.Mathlib.Nat.{sub-zero}
-use borrow.Author.Tests.{le-leb, lt-leb}
+use borrow.Author.Tests.{le-leb}
 use Rattle.format.specs.Packing.{packed_end}
 use Rattle.format.specs.Answers.{stored}
 use Rattle.format.specs.Standalone.{unpack_answer, unpack_buffer, unpack_outcome}
 use Rattle.format.proofs.Codecs.Counts.{length-unpacked}
 use Rattle.bitpack.proofs.unpack.Goals as goal
-
-pub returns-then-count-gt-MAX_CHUNK_ELEMENTS : goal.returns-then-count-gt-MAX_CHUNK_ELEMENTS
-unfolding unpack_answer unpack_buffer unpack_outcome packed_end
-returns-then-count-gt-MAX_CHUNK_ELEMENTS c = simp (lt-leb _ _ c.if-count-gt-MAX_CHUNK_ELEMENTS.true) (refl, refl)
-
-pub returns-then-width-gt64 : goal.returns-then-width-gt64
-unfolding unpack_answer unpack_buffer unpack_outcome packed_end
-returns-then-width-gt64 c = simp (le-leb _ _ c.if-count-gt-MAX_CHUNK_ELEMENTS.false, lt-leb _ _ c.if-width-gt64.true) (refl, refl)
-
-pub returns-then-bytes-needed : goal.returns-then-bytes-needed
-unfolding unpack_answer unpack_buffer unpack_outcome packed_end
-returns-then-bytes-needed c =
-    let needed = c.bytes_for-needed.ensures in
-    simp (sub-zero, le-leb _ _ c.if-count-gt-MAX_CHUNK_ELEMENTS.false, le-leb _ _ c.if-width-gt64.false, ← needed, lt-leb _ _ c.if-bytes-needed.true) (refl, refl)
-
-pub returns-then-out-count : goal.returns-then-out-count
-unfolding unpack_answer unpack_buffer unpack_outcome packed_end
-returns-then-out-count c =
-    let needed = c.bytes_for-needed.ensures in
-    simp
-    (sub-zero, le-leb _ _ c.if-count-gt-MAX_CHUNK_ELEMENTS.false, le-leb _ _ c.if-width-gt64.false, ← needed, le-leb _ _ c.if-bytes-needed.false, lt-leb _ _ c.if-out-count.true)
-    (refl, refl)
 
 pub returns : goal.returns
 unfolding unpack_answer unpack_buffer unpack_outcome packed_end stored

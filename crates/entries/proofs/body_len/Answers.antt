@@ -10,7 +10,7 @@ use Rattle.format.proofs.Lengths.Limits.{entries_len-most, code_width-le}
 use Rattle.format.proofs.Numbers.Widths.{uvarint_len-le}
 use Rattle.entries.proofs.Limits.{measured-long, measured-many, measured-parts}
 use Rattle.entries.proofs.body_len.Goals as goal
-use Rattle.entries.proofs.body_len.Goals.{After-entries_len}
+use Rattle.entries.proofs.body_len.Goals.{After-entries_len, then-count-gt-MAX_CHUNK_ELEMENTS-via-then-count-gt-MAX_CHUNK_ELEMENTS, then-count-gt-MAX_CHUNK_ELEMENTS-via-else-count-gt-MAX_CHUNK_ELEMENTS+then-entries-gt-MAX_DICTIONARY_CARDINALITY}
 
 few : (c : After-entries_len) → c.args.count ≤ max_chunk_elements
 few c = search rules
@@ -28,13 +28,15 @@ bits c =
     mul-le-mul (few c) narrow
 
 pub returns-then-count-gt-MAX_CHUNK_ELEMENTS : goal.returns-then-count-gt-MAX_CHUNK_ELEMENTS
-returns-then-count-gt-MAX_CHUNK_ELEMENTS c = sym (measured-long _ _ c.if-count-gt-MAX_CHUNK_ELEMENTS.true)
-
-pub returns-then-entries-gt-MAX_DICTIONARY_CARDINALITY : goal.returns-then-entries-gt-MAX_DICTIONARY_CARDINALITY
-returns-then-entries-gt-MAX_DICTIONARY_CARDINALITY c = sym (measured-many _ _ c.if-count-gt-MAX_CHUNK_ELEMENTS.false c.if-entries-gt-MAX_DICTIONARY_CARDINALITY.true)
+returns-then-count-gt-MAX_CHUNK_ELEMENTS c =
+    elim c.then-count-gt-MAX_CHUNK_ELEMENTS.branch [
+      | then-count-gt-MAX_CHUNK_ELEMENTS-via-then-count-gt-MAX_CHUNK_ELEMENTS w ↦ sym (measured-long _ _ w.if-count-gt-MAX_CHUNK_ELEMENTS.true)
+      | then-count-gt-MAX_CHUNK_ELEMENTS-via-else-count-gt-MAX_CHUNK_ELEMENTS+then-entries-gt-MAX_DICTIONARY_CARDINALITY w ↦
+          sym (measured-many _ _ w.if-count-gt-MAX_CHUNK_ELEMENTS.false w.if-entries-gt-MAX_DICTIONARY_CARDINALITY.true)
+    ]
 
 pub returns : goal.returns
-returns c = measured-parts _ _ (few (goal.at.returns c).After-entries_len) c.if-entries-gt-MAX_DICTIONARY_CARDINALITY.false c.uvarint_len.ensures c.entries_len.ensures c.code_width-width.ensures
+returns c = measured-parts _ _ (few (goal.at.returns c).After-entries_len) (search rules) c.uvarint_len.ensures c.entries_len.ensures c.code_width-width.ensures c.div_ceil.ensures
 
 pub overflow_add-result : goal.overflow_add-result
 overflow_add-result c = omega (arith, varints (goal.at.overflow_add-result c).After-entries_len)
@@ -42,5 +44,5 @@ overflow_add-result c = omega (arith, varints (goal.at.overflow_add-result c).Af
 pub overflow_add-result-2 : goal.overflow_add-result-2
 overflow_add-result-2 c = omega (arith, varints (goal.at.overflow_add-result-2 c).After-entries_len)
 
-pub overflow_add-result-4 : goal.overflow_add-result-4
-overflow_add-result-4 c = omega (arith, varints (goal.at.overflow_add-result-4 c).After-entries_len, bits (goal.at.overflow_add-result-4 c).After-entries_len)
+pub overflow_add-result-3 : goal.overflow_add-result-3
+overflow_add-result-3 c = omega (arith, varints (goal.at.overflow_add-result-3 c).After-entries_len, bits (goal.at.overflow_add-result-3 c).After-entries_len)

@@ -11,12 +11,12 @@ use Rattle.format.proofs.Numbers.Columns.{below-zigzags, map-unzigzag}
 use Rattle.format.proofs.Numbers.All.{All}
 use Rattle.format.proofs.Numbers.Occurs.{Occurs}
 use Rattle.format.proofs.Codecs.Packed.{body-width, body-byte, body_end, body_back}
-use Rattle.format.specs.declared.Padded.{Padded}
+use Rattle.std.specs.Prelude.{Option}
 
 module _ {s : List ℕ} {at : ℕ} {column : List ℤ} (ks : All Key column) where
   -- BitPacked: the end of a body that occurs at a place,
   pub bit_packed-validate :
-      Occurs s at (bit_packed_body column) → (padded : Padded)
+      Occurs s at (bit_packed_body column) → (padded : Option ℕ)
       → validate_bit_packed s at (length column) padded ≡ ok (record { end = at + length (bit_packed_body column); padded = padded })
   unfolding validate_bit_packed bit_packed_body
   bit_packed-validate o padded =

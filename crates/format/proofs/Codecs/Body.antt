@@ -8,8 +8,8 @@ use Rattle.format.specs.Outcome.{ok}
 use Rattle.format.specs.Encodings.{max_chunk_elements}
 use Rattle.format.specs.Chunk.{body_of, validate_body, body_values}
 use Rattle.format.specs.Keys.{Key}
-use Rattle.format.specs.declared.Encoding.{Encoding}
-use Rattle.format.specs.declared.Encoding.TheVariants.{Plain, Varint, BitPacked, FrameOfReference, RunLength, Dictionary, DeltaBinaryPacked}
+use Rattle.format.specs.declared.encoding.Encoding.{Encoding}
+use Rattle.format.specs.declared.encoding.Encoding.TheVariants.{Plain, Varint, BitPacked, FrameOfReference, RunLength, Dictionary, DeltaBinaryPacked}
 use Rattle.format.proofs.Numbers.All.{All}
 use Rattle.format.proofs.Numbers.Occurs.{Occurs}
 use Rattle.format.proofs.Codecs.Plain.{plain-validate, plain_back}
@@ -19,12 +19,12 @@ use Rattle.format.proofs.Codecs.Frame.{frame-validate, frame_back}
 use Rattle.format.proofs.Codecs.RunLength.{run_length-validate, run_length-back}
 use Rattle.format.proofs.Codecs.Dictionary.{dictionary-validate, dictionary-back}
 use Rattle.format.proofs.Codecs.Delta.{delta-validate, delta-back}
-use Rattle.format.specs.declared.Padded.{Padded}
+use Rattle.std.specs.Prelude.{Option}
 
 module _ {s : List ℕ} {at : ℕ} {column : List ℤ} (ks : All Key column) (few : length column ≤ max_chunk_elements) where
   -- a body that occurs at a place: its end,
   pub body-validate :
-      (e : Encoding) → Occurs s at (body_of e column) → (padded : Padded)
+      (e : Encoding) → Occurs s at (body_of e column) → (padded : Option ℕ)
       → validate_body e s at (length column) padded ≡ ok (record { end = at + length (body_of e column); padded = padded })
   unfolding body_of validate_body
   body-validate Plain h padded = plain-validate column h padded

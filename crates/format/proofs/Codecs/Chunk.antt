@@ -17,20 +17,19 @@ use Rattle.format.specs.Chunk.{body_of, chunk_of}
 use Rattle.format.specs.Read.{Validated, validate, strict_checks, read_outcome, values_of, read_answer, read_column}
 use Rattle.format.specs.Keys.{Keys}
 use Rattle.format.specs.ThirdDemand.{NamedFor}
-use Rattle.format.specs.declared.Answer.TheVariants.{Accepted}
-use Rattle.format.specs.declared.Encoding.{Encoding}
+use Rattle.format.specs.declared.encoding.Encoding.{Encoding}
 use Rattle.format.proofs.Codecs.Header.{length-header_bytes, read_header-back, header_written}
 use Rattle.format.proofs.Codecs.Encodings.{encoding_of-id}
 use Rattle.format.proofs.Numbers.Columns.{keys-all}
 use Rattle.format.proofs.Numbers.Occurs.{Occurs, occurs-middle, occurs-at}
 use Rattle.format.proofs.Codecs.Body.{body-validate, body-values}
-use Rattle.format.specs.declared.Padded.TheVariants.{Nowhere}
+use Rattle.std.specs.Prelude.{None}
 
 -- ---- the chunk, with whatever bytes after it
 
 -- what reading a column's chunk finds
 abbrev pub chunk_written : Encoding → List ℤ → Validated
-chunk_written e column = record { header = header_written (id_of e) (length column); body = record { end = length (chunk_of e column); padded = Nowhere } }
+chunk_written e column = record { header = header_written (id_of e) (length column); body = record { end = length (chunk_of e column); padded = None } }
 
 module _ (e : Encoding) (column : List ℤ) (rest : List ℕ) where
   -- a chunk is a header and a body
@@ -56,7 +55,7 @@ module _ (e : Encoding) {naming : Naming} (column : List ℤ) (rest : List ℕ) 
         chunk-parts e column rest,
         read_header-back e (length column) (body_of e column ++ rest) naming r few,
         encoding_of-id e,
-        body-validate (keys-all column ks) few e (chunk-body e column rest) Nowhere,
+        body-validate (keys-all column ks) few e (chunk-body e column rest) None,
         chunk-length e column rest,
       )
 
@@ -73,7 +72,7 @@ module _ (e : Encoding) {naming : Naming} (column : List ℤ) (rest : List ℕ) 
 -- ---- the chunk alone
 
 -- strict reading's own questions
-strict-chunk : (strict : Bool) (s : List ℕ) → strict_checks strict s (record { end = length s; padded = Nowhere }) ≡ ok tt
+strict-chunk : (strict : Bool) (s : List ℕ) → strict_checks strict s (record { end = length s; padded = None }) ≡ ok tt
 unfolding strict_checks
 strict-chunk true s = rw (eq-eqb (length s) (length s) refl)
 strict-chunk false s = refl
@@ -87,7 +86,7 @@ module _ (e : Encoding) (strict : Bool) {naming : Naming} (column : List ℤ) (k
       rw (all, strict-chunk strict (chunk_of e column), le-leb (length column) room h)
 
   -- THE ANSWER: accepted, with the column's count
-  pub read_answer-back : (room : ℕ) → length column ≤ room → read_answer strict naming (chunk_of e column) room ≡ Accepted (length column)
+  pub read_answer-back : (room : ℕ) → length column ≤ room → read_answer strict naming (chunk_of e column) room ≡ ok (length column)
   unfolding read_answer
   read_answer-back room h = rw (read_outcome-back room h)
 

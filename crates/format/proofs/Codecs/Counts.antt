@@ -14,7 +14,9 @@ use lib.ListN.{length, drop, length-append, length-map, length-replicate}
 use Rattle.format.specs.Outcome.{ok, check}
 use Rattle.format.specs.Digits.{of_digits}
 use Rattle.format.specs.Keys.{wrapping_add}
-use Rattle.format.specs.Varint.{UvarintRead, Extent, read_uvarint, uvarint_at, uvarint_values}
+use Rattle.format.specs.declared.Uvarint.{Uvarint}
+use Rattle.format.specs.declared.Extent.{Extent}
+use Rattle.format.specs.Varint.{read_uvarint, uvarint_at, uvarint_values}
 use Rattle.format.specs.Packing.{unpacked, packed_values}
 use Rattle.format.specs.Plain.{plain_values}
 use Rattle.format.specs.VarintBody.{varint_body_values}
@@ -27,11 +29,11 @@ use Rattle.format.specs.Encodings.{encoding_of, within}
 use Rattle.format.specs.Header.{Naming, read_header}
 use Rattle.format.specs.Chunk.{validate_body, body_values}
 use Rattle.format.specs.Read.{Validated, validate, values_of}
-use Rattle.format.specs.declared.Encoding.{Encoding}
-use Rattle.format.specs.declared.Encoding.TheVariants.{Plain, Varint, BitPacked, FrameOfReference, RunLength, Dictionary, DeltaBinaryPacked}
+use Rattle.format.specs.declared.encoding.Encoding.{Encoding}
+use Rattle.format.specs.declared.encoding.Encoding.TheVariants.{Plain, Varint, BitPacked, FrameOfReference, RunLength, Dictionary, DeltaBinaryPacked}
 use Rattle.format.proofs.Numbers.Digits.{length_digits}
 use Rattle.format.proofs.Codecs.Outcome.{both-passed, check-passed}
-use Rattle.format.specs.declared.Padded.{Padded}
+use Rattle.std.specs.Prelude.{Option}
 
 -- ---- numbers read in a row
 
@@ -60,13 +62,13 @@ length-plain_values s at (suc n) = ap suc (length-plain_values s (at + 8) n)
 -- ---- RunLength
 
 -- a varint that was read is found again
-pub uvarint-again : (s : List ℕ) (at : ℕ) {v : UvarintRead} → read_uvarint s at ≡ ok v → uvarint_at s at ≡ v
+pub uvarint-again : (s : List ℕ) (at : ℕ) {v : Uvarint} → read_uvarint s at ≡ ok v → uvarint_at s at ≡ v
 unfolding uvarint_at
 uvarint-again s at h = rw h
 
 -- n runs that were read give as many values as were left: each takes its length off, which is at most what is left by question 15, and by question 16 none is
 -- left at the end
-pub length-run_values : (s : List ℕ) (at n left : ℕ) (padded : Padded) {e : Extent} → validate_runs s at n left padded ≡ ok e → length (run_values s at n) ≡ left
+pub length-run_values : (s : List ℕ) (at n left : ℕ) (padded : Option ℕ) {e : Extent} → validate_runs s at n left padded ≡ ok e → length (run_values s at n) ≡ left
 unfolding validate_runs run_values
 length-run_values s at zero left padded h = both-passed (check (eqb left 0) 16 0) _ h λ _ none h₁. sym (eqb-true left 0 (check-passed (eqb left 0) 16 0 none))
 length-run_values s at (suc n) left padded h =
@@ -79,7 +81,7 @@ length-run_values s at (suc n) left padded h =
 
 -- a RunLength body that was read gives as many values as are counted
 pub run_length-count :
-    (s : List ℕ) (start count : ℕ) (padded : Padded) {e : Extent} → validate_run_length s start count padded ≡ ok e
+    (s : List ℕ) (start count : ℕ) (padded : Option ℕ) {e : Extent} → validate_run_length s start count padded ≡ ok e
     → length (run_length_values s start) ≡ count
 unfolding validate_run_length run_length_values
 run_length-count s start count padded h =
@@ -116,7 +118,7 @@ and_left false u h = h
 
 -- a DeltaBinaryPacked body that was read gives as many values as are counted
 pub delta-count :
-    (s : List ℕ) (start count : ℕ) (padded : Padded) {e : Extent} → validate_delta s start count padded ≡ ok e
+    (s : List ℕ) (start count : ℕ) (padded : Option ℕ) {e : Extent} → validate_delta s start count padded ≡ ok e
     → length (delta_values s start count) ≡ count
 unfolding validate_delta delta_values
 delta-count s start zero padded h = refl
@@ -132,7 +134,7 @@ delta-count s start (suc left) padded h =
 
 -- a body that was read gives as many values as are counted
 pub body-count :
-    (encoding : Encoding) (s : List ℕ) (start count : ℕ) (padded : Padded) {e : Extent} → validate_body encoding s start count padded ≡ ok e
+    (encoding : Encoding) (s : List ℕ) (start count : ℕ) (padded : Option ℕ) {e : Extent} → validate_body encoding s start count padded ≡ ok e
     → length (body_values encoding s start count) ≡ count
 unfolding validate_body body_values varint_body_values bit_packed_values frame_values dictionary_values
 body-count Plain s start count padded h = length-plain_values s start count

@@ -11,7 +11,8 @@ use lib.ListN.{length, get_or, take, drop, length-append, length-map, length-tak
 use lib.Seq.{take-add, take_all}
 use Rattle.format.specs.Outcome.{ok}
 use Rattle.format.specs.Keys.{gap, wrapping_add, zigzag, unzigzag, Key}
-use Rattle.format.specs.Varint.{UvarintRead, uvarint_bytes, varint_bytes, read_uvarint, uvarint_at}
+use Rattle.format.specs.declared.Uvarint.{Uvarint}
+use Rattle.format.specs.Varint.{uvarint_bytes, varint_bytes, read_uvarint, uvarint_at}
 use Rattle.format.specs.Width.{width}
 use Rattle.format.specs.Packing.{packed_len, width_at, packed_end, packed_values}
 use Rattle.format.specs.Folds.{least, largest, deltas, deltas_from}
@@ -27,7 +28,7 @@ use Rattle.format.proofs.Codecs.Counts.{block_count-enough}
 use Rattle.format.proofs.Codecs.Packed.{body-width, body-byte, body_end, body_back}
 use Rattle.format.proofs.Numbers.Packing.{length-packed}
 use Rattle.format.proofs.Numbers.Uvarints.{uvarint_written, read_uvarint-back, uvarint_at-back}
-use Rattle.format.specs.declared.Padded.{Padded}
+use Rattle.std.specs.Prelude.{Option}
 
 -- ---- one block that occurs at a place
 
@@ -100,14 +101,14 @@ left-blocks : (ds : List ℤ) → length ds - length (take 128 ds) ≡ length (d
 left-blocks ds = omega (arith, length-take 128 ds, length-drop 128 ds)
 
 -- the deltas of a block of n, by its least delta and its width, and of the k blocks after it
-abbrev from_low : List ℕ → ℕ → ℕ → UvarintRead → ℕ → ℕ → List ℤ
+abbrev from_low : List ℕ → ℕ → ℕ → Uvarint → ℕ → ℕ → List ℤ
 from_low s k left low w n =
     map (λ m. wrapping_add (unzigzag low.value) (pos m)) (packed_values s (low.next + 1) w n)
     ++ block_deltas s 128 (low.next + 1 + packed_len n w) k (left - n)
 
 -- k blocks that occur at a place: their end,
 pub blocks-validate :
-    {s : List ℕ} {at : ℕ} {ds : List ℤ} (k : ℕ) (padded : Padded) → All Key ds → Occurs s at (blocks_bytes k ds)
+    {s : List ℕ} {at : ℕ} {ds : List ℤ} (k : ℕ) (padded : Option ℕ) → All Key ds → Occurs s at (blocks_bytes k ds)
     → validate_blocks s 128 at k (length ds) padded ≡ ok (record { end = at + length (blocks_bytes k ds); padded = padded })
 unfolding validate_blocks blocks_bytes
 blocks-validate {at} zero padded ks h = ap (λ (n : ℕ). ok (record { end = n; padded = padded })) (sym (add-zero at))
@@ -132,7 +133,7 @@ blocks-back {s} {at} {ds} (suc k) ks h =
     let ha : Occurs s at a = occurs-first a b h in
     let n : ℕ = length (take 128 ds) in
     let all : 128 + k * 128 ≡ suc k * 128 = omega arith in
-    ap₂ (λ (low : UvarintRead) (m : ℕ). from_low s k (length ds) low (get_or s low.next 0) m) (block_at ka ha) (next-block ds)
+    ap₂ (λ (low : Uvarint) (m : ℕ). from_low s k (length ds) low (get_or s low.next 0) m) (block_at ka ha) (next-block ds)
     ∙ ap (λ (w : ℕ). from_low s k (length ds) (uvarint_written at (zigzag (least (take 128 ds)))) w n) (block-byte ka ha)
     ∙ ap₂ (λ (x y : List ℤ). x ++ y) (block_back ka ha)
     (ap₂ (λ (p l : ℕ). block_deltas s 128 p k l) (block-after ka ha) (left-blocks ds) ∙ blocks-back {at = at + length a} k (all_drop 128 ks) (occurs-next a b h))
@@ -161,7 +162,7 @@ module _ {s : List ℕ} {at : ℕ} (first : ℤ) (rest : List ℤ) (h : Occurs s
 
 -- DeltaBinaryPacked: the end of a body that occurs at a place,
 pub delta-validate :
-    {s : List ℕ} {at : ℕ} {column : List ℤ} → All Key column → Occurs s at (delta_body column) → (padded : Padded)
+    {s : List ℕ} {at : ℕ} {column : List ℤ} → All Key column → Occurs s at (delta_body column) → (padded : Option ℕ)
     → validate_delta s at (length column) padded ≡ ok (record { end = at + length (delta_body column); padded = padded })
 unfolding validate_delta delta_body deltas varint_bytes
 delta-validate {at} all_none h padded = ap (λ (n : ℕ). ok (record { end = n; padded = padded })) (sym (add-zero at))
@@ -188,13 +189,13 @@ delta-back all_none h = refl
 delta-back {s} {at} (all_more {x} {xs} k r) h =
     let ds : List ℤ = deltas_from x xs in
     ap {B = List ℤ}
-    (λ (first : UvarintRead).
+    (λ (first : Uvarint).
     unzigzag first.value
     ∷ prefix_sums (unzigzag first.value)
     (block_deltas s (uvarint_at s first.next).value (uvarint_at s first.next).next (block_count (uvarint_at s first.next).value (length xs)) (length xs)))
     (uvarint_at-back (zigzag x) (zigzag-lt x k) (delta-first x xs h))
     ∙ ap {B = List ℤ}
-    (λ (size : UvarintRead).
+    (λ (size : Uvarint).
     unzigzag (zigzag x)
     ∷ prefix_sums (unzigzag (zigzag x)) (block_deltas s size.value size.next (block_count size.value (length xs)) (length xs)))
     (uvarint_at-back 128 (lit< tt) (delta-size x xs h))

@@ -11,7 +11,8 @@ use lib.ListN.{length, get_or, length-append, length-map}
 use borrow.Author.Tests.{lt-ltb, le-leb}
 use Rattle.format.specs.Outcome.{ok}
 use Rattle.format.specs.Keys.{Key, gap, zigzag}
-use Rattle.format.specs.Varint.{UvarintRead, uvarint_bytes, varint_bytes, validate_uvarints, uvarint_values, after_uvarints}
+use Rattle.format.specs.declared.Uvarint.{Uvarint}
+use Rattle.format.specs.Varint.{uvarint_bytes, varint_bytes, validate_uvarints, uvarint_values, after_uvarints}
 use Rattle.format.specs.Packing.{packed_len, packed, packed_end, packed_values}
 use Rattle.format.specs.Encodings.{max_chunk_elements}
 use Rattle.format.specs.Dictionary.{gap_bytes, entry_bytes, code_of, code_width, dictionary_body_with, dictionary_body, all_below, validate_dictionary, entries_from, entries_of, dictionary_values}
@@ -25,7 +26,7 @@ use Rattle.format.proofs.Numbers.Uvarints.{read_uvarint-back, uvarint_at-back}
 use Rattle.format.proofs.Numbers.UvarintRows.{uvarints_bytes, uvarints_bytes-room, first_padded-unpadded, validate_uvarints-back, uvarint_values-back, after_uvarints-back}
 use Rattle.format.proofs.Codecs.Packed.{width_read, packed-end, packed-back}
 use Rattle.format.proofs.Codecs.Codes.{Ranked, code_of-lt, code_of-is, distinct-ranked}
-use Rattle.format.specs.declared.Padded.{Padded}
+use Rattle.std.specs.Prelude.{Option}
 
 -- ---- entries as numbers
 
@@ -182,7 +183,7 @@ module _ {s : List ℕ} {at : ℕ} {entries column : List ℤ} (ks : All Key ent
 
   -- the end,
   validate-with :
-      (padded : Padded) → validate_dictionary s at (length column) padded ≡ ok (record { end = at + length (dictionary_body_with entries column); padded = padded })
+      (padded : Option ℕ) → validate_dictionary s at (length column) padded ≡ ok (record { end = at + length (dictionary_body_with entries column); padded = padded })
   unfolding validate_dictionary
   validate-with padded =
       let n : ℕ = length entries in
@@ -217,7 +218,7 @@ module _ {s : List ℕ} {at : ℕ} {entries column : List ℤ} (ks : All Key ent
       let after : after_uvarints s p n ≡ width_byte_at at entries =
       ap (after_uvarints s p) (sym (length-entry_numbers entries)) ∙ after_uvarints-back (below-entry_numbers ks) (part-entries entries column o) in
       ap
-      (λ (total : UvarintRead).
+      (λ (total : Uvarint).
       map (λ code. get_or (entries_of (uvarint_values s total.next total.value)) code (pos 0))
       (packed_values s (after_uvarints s total.next total.value + 1) (get_or s (after_uvarints s total.next total.value) 0) (length column)))
       (uvarint_at-back n (omega arith) (part-total entries column o))
@@ -227,7 +228,7 @@ module _ {s : List ℕ} {at : ℕ} {entries column : List ℤ} (ks : All Key ent
 module _ {s : List ℕ} {at : ℕ} {column : List ℤ} (ks : All Key column) (few : length column ≤ max_chunk_elements) (o : Occurs s at (dictionary_body column)) where
   -- Dictionary: the end of a body that occurs at a place,
   pub dictionary-validate :
-      (padded : Padded) → validate_dictionary s at (length column) padded ≡ ok (record { end = at + length (dictionary_body column); padded = padded })
+      (padded : Option ℕ) → validate_dictionary s at (length column) padded ≡ ok (record { end = at + length (dictionary_body column); padded = padded })
   unfolding dictionary_body
   dictionary-validate padded = validate-with (distinct-keys ks) (distinct-ranked column) (omega (arith, length-distinct column)) o padded
 

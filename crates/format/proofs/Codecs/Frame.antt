@@ -19,7 +19,7 @@ use Rattle.format.proofs.Numbers.All.{All}
 use Rattle.format.proofs.Numbers.Extremes.{least-key}
 use Rattle.format.proofs.Numbers.Occurs.{Occurs, occurs-first, occurs-next, occurs-room, occurs-at}
 use Rattle.format.proofs.Codecs.Packed.{body-byte, body_end, body_back}
-use Rattle.format.specs.declared.Padded.{Padded}
+use Rattle.std.specs.Prelude.{Option}
 
 module _ {s : List ℕ} {at : ℕ} (column : List ℤ) (o : Occurs s at (frame_body column)) where
   -- the least value's bytes, the packed differences after them, and the length of both
@@ -40,7 +40,7 @@ module _ {s : List ℕ} {at : ℕ} (column : List ℤ) (o : Occurs s at (frame_b
 module _ {s : List ℕ} {at : ℕ} {column : List ℤ} (ks : All Key column) where
   -- FrameOfReference: the end of a body that occurs at a place,
   pub frame-validate :
-      Occurs s at (frame_body column) → (padded : Padded)
+      Occurs s at (frame_body column) → (padded : Option ℕ)
       → validate_frame s at (length column) padded ≡ ok (record { end = at + length (frame_body column); padded = padded })
   unfolding validate_frame packed_body
   frame-validate o padded =

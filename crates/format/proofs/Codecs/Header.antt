@@ -9,12 +9,13 @@ use borrow.Author.Tests.{lt-ltb, le-leb, eq-eqb}
 use Rattle.format.specs.Outcome.{ok}
 use Rattle.format.specs.Varint.{uvarint_bytes, read_uvarint}
 use Rattle.format.specs.Encodings.{id_of, max_chunk_elements}
-use Rattle.format.specs.Header.{header_bytes, header_len, Naming, unnamed, named, read_id, Header, read_header}
+use Rattle.format.specs.Header.{header_bytes, header_len, Naming, unnamed, named, read_id, read_header}
+use Rattle.format.specs.declared.Header.{Header}
 use Rattle.format.specs.ThirdDemand.{NamedFor, unnamed-reading, named-reading}
-use Rattle.format.specs.declared.Encoding.{Encoding}
+use Rattle.format.specs.declared.encoding.Encoding.{Encoding}
 use Rattle.format.proofs.Numbers.Uvarints.{length-uvarint_bytes, uvarint_written, read_uvarint-back}
 use Rattle.format.proofs.Codecs.Encodings.{id_of-low, id_of-high}
-use Rattle.format.specs.declared.Padded.TheVariants.{Nowhere}
+use Rattle.std.specs.Prelude.{None}
 
 -- a header has its length
 pub length-header_bytes : (id count : ℕ) → length (header_bytes id count) ≡ header_len count
@@ -23,7 +24,7 @@ length-header_bytes id count = omega (arith, length-uvarint_bytes count)
 
 -- what a header of that id and count says
 abbrev pub header_written : ℕ → ℕ → Header
-header_written id count = record { id = id; count = count; start = header_len count; padded = Nowhere }
+header_written id count = record { id = id; count = count; start = header_len count; padded = None }
 
 module _ (id count : ℕ) (rest : List ℕ) (low : 1 ≤ id) (high : id ≤ 7) where
   -- the id is read, unnamed

@@ -13,12 +13,12 @@ use Rattle.format.proofs.Numbers.All.{All, all_none, all_more}
 use Rattle.format.proofs.Numbers.Keys.{length-key_bytes, key_at-back}
 use Rattle.format.proofs.Numbers.Occurs.{Occurs, occurs-first, occurs-next, occurs-room, occurs-at}
 use Rattle.format.proofs.Lengths.Parts.{length-plain_body}
-use Rattle.format.specs.declared.Padded.{Padded}
+use Rattle.std.specs.Prelude.{Option}
 
 module _ {s : List ℕ} where
   -- Plain: the end of a body that occurs at a place, for any column,
   pub plain-validate :
-      {at : ℕ} (column : List ℤ) → Occurs s at (plain_body column) → (padded : Padded)
+      {at : ℕ} (column : List ℤ) → Occurs s at (plain_body column) → (padded : Option ℕ)
       → validate_plain s at (length column) padded ≡ ok (record { end = at + length (plain_body column); padded = padded })
   unfolding validate_plain
   plain-validate {at} column o padded =

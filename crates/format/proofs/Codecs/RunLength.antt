@@ -12,7 +12,8 @@ use borrow.Author.Tests.{le-leb}
 use Rattle.format.specs.Outcome.{ok}
 use Rattle.format.specs.Encodings.{max_chunk_elements}
 use Rattle.format.specs.Keys.{eq_z, zigzag, unzigzag, Key}
-use Rattle.format.specs.Varint.{UvarintRead, uvarint_bytes, varint_bytes, uvarint_at}
+use Rattle.format.specs.declared.Uvarint.{Uvarint}
+use Rattle.format.specs.Varint.{uvarint_bytes, varint_bytes, uvarint_at}
 use Rattle.format.specs.Runs.{Run, runs, runs_from, run_bytes, run_body, validate_runs, validate_run_length, run_values, run_length_values}
 use Rattle.format.proofs.Numbers.UvarintRows.{first_padded-unpadded}
 use Rattle.format.proofs.Numbers.Keys.{unzigzag-zigzag, zigzag-lt}
@@ -20,7 +21,7 @@ use Rattle.format.proofs.Numbers.All.{All, all_none, all_more}
 use Rattle.format.proofs.Numbers.Occurs.{Occurs, occurs-first, occurs-next, occurs-at}
 use Rattle.format.proofs.Numbers.Uvarints.{read_uvarint-back, uvarint_at-back}
 use Rattle.format.proofs.Numbers.Order.{eq_z-true}
-use Rattle.format.specs.declared.Padded.{Padded}
+use Rattle.std.specs.Prelude.{Option}
 
 -- ---- the runs of a column
 
@@ -138,7 +139,7 @@ runs_fit {column} ks n = runs-small (keys-runs ks) (omega (arith, times-runs col
 
 -- runs that occur at a place: their end,
 pub runs-validate :
-    {s : List ℕ} {at : ℕ} {rs : List Run} (padded : Padded) → All RunFits rs → Occurs s at (run_bytes rs)
+    {s : List ℕ} {at : ℕ} {rs : List Run} (padded : Option ℕ) → All RunFits rs → Occurs s at (run_bytes rs)
     → validate_runs s at (length rs) (times_in rs) padded ≡ ok (record { end = at + length (run_bytes rs); padded = padded })
 unfolding validate_runs run_bytes times_in varint_bytes
 runs-validate {at} padded all_none h = ap (λ (n : ℕ). ok (record { end = n; padded = padded })) (sym (add-zero at))
@@ -170,16 +171,16 @@ runs-back {s} {at} (all_more {x} {xs} f fs) h =
     let b : List ℕ = uvarint_bytes x.times in
     let e : at + length (a ++ b) ≡ at + length a + length b = omega (arith, length-append a b) in
     let ab : Occurs s at (a ++ b) = occurs-first (a ++ b) (run_bytes xs) h in
-    ap (λ (k : UvarintRead). replicate (uvarint_at s k.next).value (unzigzag k.value) ++ run_values s (uvarint_at s k.next).next (length xs))
+    ap (λ (k : Uvarint). replicate (uvarint_at s k.next).value (unzigzag k.value) ++ run_values s (uvarint_at s k.next).next (length xs))
     (uvarint_at-back (zigzag x.key) (zigzag-lt x.key f.key) (occurs-first a b ab))
-    ∙ ap (λ (t : UvarintRead). replicate t.value (unzigzag (zigzag x.key)) ++ run_values s t.next (length xs))
+    ∙ ap (λ (t : Uvarint). replicate t.value (unzigzag (zigzag x.key)) ++ run_values s t.next (length xs))
     (uvarint_at-back x.times f.small (occurs-next a b ab))
     ∙ rw (unzigzag-zigzag x.key) (ap (λ (l : List ℤ). replicate x.times x.key ++ l) (runs-back {at = at + length a + length b} fs (occurs-at e (occurs-next (a ++ b) (run_bytes xs) h))))
 
 module _ {s : List ℕ} {at : ℕ} {column : List ℤ} (ks : All Key column) (few : length column ≤ max_chunk_elements) where
   -- RunLength: the end of a body that occurs at a place,
   pub run_length-validate :
-      Occurs s at (run_body column) → (padded : Padded)
+      Occurs s at (run_body column) → (padded : Option ℕ)
       → validate_run_length s at (length column) padded ≡ ok (record { end = at + length (run_body column); padded = padded })
   unfolding validate_run_length run_body
   run_length-validate h padded =
@@ -199,7 +200,7 @@ module _ {s : List ℕ} {at : ℕ} {column : List ℤ} (ks : All Key column) (fe
   unfolding run_length_values run_body
   run_length-back h =
       let a : List ℕ = uvarint_bytes (length (runs column)) in
-      ap (λ (n : UvarintRead). run_values s n.next n.value)
+      ap (λ (n : Uvarint). run_values s n.next n.value)
       (uvarint_at-back (length (runs column)) (omega (arith, length_runs column)) (occurs-first a (run_bytes (runs column)) h))
       ∙ runs-back (runs_fit ks few) (occurs-next a (run_bytes (runs column)) h)
       ∙ expanded-runs column

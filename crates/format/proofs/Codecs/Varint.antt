@@ -12,7 +12,7 @@ use Rattle.format.proofs.Numbers.All.{All}
 use Rattle.format.proofs.Numbers.Columns.{below-zigzags, map-unzigzag}
 use Rattle.format.proofs.Numbers.Occurs.{Occurs, occurs-as}
 use Rattle.format.proofs.Numbers.UvarintRows.{uvarints_bytes, validate_uvarints-back, uvarint_values-back}
-use Rattle.format.specs.declared.Padded.{Padded}
+use Rattle.std.specs.Prelude.{Option}
 
 -- the body is varints in a row
 varint_body-is : (column : List ℤ) → varint_body column ≡ uvarints_bytes (map zigzag column)
@@ -22,7 +22,7 @@ varint_body-is (v ∷ vs) = ap (λ (l : List ℕ). uvarint_bytes (zigzag v) ++ l
 
 module _ {s : List ℕ} {at : ℕ} {column : List ℤ} (ks : All Key column) (o : Occurs s at (varint_body column)) where
   -- Varint: the end of a body that occurs at a place,
-  pub varint-validate : (padded : Padded) → validate_varint_body s at (length column) padded ≡ ok (record { end = at + length (varint_body column); padded = padded })
+  pub varint-validate : (padded : Option ℕ) → validate_varint_body s at (length column) padded ≡ ok (record { end = at + length (varint_body column); padded = padded })
   unfolding validate_varint_body
   varint-validate padded =
       rw (varint_body-is column, ← length-map column zigzag) (validate_uvarints-back padded (below-zigzags ks) (occurs-as (varint_body-is column) o))

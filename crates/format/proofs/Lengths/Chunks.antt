@@ -14,8 +14,8 @@ use Rattle.format.specs.Delta.{block_count}
 use Rattle.format.specs.Chunk.{chunk_of}
 use Rattle.format.specs.Estimates.{estimates_of, length_in, available_in}
 use Rattle.format.specs.Keys.{Keys}
-use Rattle.format.specs.declared.Encoding.{Encoding}
-use Rattle.format.specs.declared.Encoding.TheVariants.{Plain, Varint, BitPacked, FrameOfReference, RunLength, Dictionary, DeltaBinaryPacked}
+use Rattle.format.specs.declared.encoding.Encoding.{Encoding}
+use Rattle.format.specs.declared.encoding.Encoding.TheVariants.{Plain, Varint, BitPacked, FrameOfReference, RunLength, Dictionary, DeltaBinaryPacked}
 use Rattle.format.proofs.Lengths.Estimates.{dictionary-few, delta-two}
 use Rattle.format.proofs.Lengths.Exact.{plain-exact, varint-exact, bit_packed-exact, frame-exact, run_length-exact, dictionary-exact}
 use Rattle.format.proofs.Lengths.DeltaBound.{delta-most}

@@ -17,7 +17,7 @@ use Rattle.format.specs.Folds.{least, greatest, deltas}
 use Rattle.format.specs.Delta.{block_count}
 use Rattle.format.specs.Chunk.{chunk_of}
 use Rattle.format.specs.Estimates.{estimates_of, length_in}
-use Rattle.format.specs.declared.Encoding.TheVariants.{DeltaBinaryPacked}
+use Rattle.format.specs.declared.encoding.Encoding.TheVariants.{DeltaBinaryPacked}
 use Rattle.format.proofs.Numbers.Widths.{width-mono}
 use Rattle.format.proofs.Numbers.Keys.{gap-lt}
 use Rattle.format.proofs.Numbers.All.{All, all_take, all_drop}

@@ -15,7 +15,7 @@ use Rattle.format.specs.Folds.{least, greatest, deltas}
 use Rattle.format.specs.Header.{header_len}
 use Rattle.format.specs.Delta.{delta_block_size, block_count, block_bytes, blocks_bytes, delta_body}
 use Rattle.format.specs.Chunk.{body_of, chunk_of}
-use Rattle.format.specs.declared.Encoding.TheVariants.{DeltaBinaryPacked}
+use Rattle.format.specs.declared.encoding.Encoding.TheVariants.{DeltaBinaryPacked}
 use Rattle.format.proofs.Numbers.Uvarints.{length-uvarint_bytes}
 use Rattle.format.proofs.Numbers.Keys.{length-varint_bytes}
 use Rattle.format.proofs.Numbers.All.{All, all_take, all_drop}

@@ -1,7 +1,7 @@
 -- The estimates of a column, one by one, as sums over the column, and when each is available. All of it is by computing `estimates_of`: Dictionary and Delta
 -- are available by a test, which is put first; an unavailable one's length is 0.
 use mathlib.Core.Path.{◌≡◌, refl, sym, ◌∙◌}
-use Prim.Native.Nat.{◌+◌, ◌-◌, ◌*◌, max, ◌≤◌, ◌<◌}
+use Prim.Native.Nat.{ℕ, ◌+◌, ◌-◌, ◌*◌, max, ◌≤◌, ◌<◌}
 use mathlib.Core.Logic.{◌≢◌}
 use mathlib.Core.Bool.{Bool, true, false, cond}
 use mathlib.Core.List.{List, map}
@@ -21,16 +21,17 @@ use Rattle.format.specs.Distinct.{distinct, too_many_distinct}
 use Rattle.format.specs.Dictionary.{code_width}
 use Rattle.format.specs.Delta.{delta_block_size, block_count}
 use Rattle.format.specs.Statistics.{run_len, cardinality_of, stats_of}
-use Rattle.format.specs.Estimates.{is_exact, entries_len, plain_estimate, varint_estimate, bit_packed_estimate, frame_estimate, run_length_estimate, dictionary_estimate, delta_estimate, estimates_from, estimates_of, length_in, available_in}
+use Rattle.std.specs.Option.{is_some}
+use Rattle.format.specs.Estimates.{size_if, is_exact, entries_len, plain_estimate, varint_estimate, bit_packed_estimate, frame_estimate, run_length_estimate, dictionary_estimate, delta_estimate, estimates_from, estimates_of, length_in, available_in}
 use Rattle.format.specs.declared.Cardinality.TheVariants.{Exact, AtLeast}
-use Rattle.format.specs.declared.Encoding.{Encoding}
-use Rattle.format.specs.declared.Encoding.TheVariants.{Plain, Varint, BitPacked, FrameOfReference, RunLength, Dictionary, DeltaBinaryPacked}
+use Rattle.format.specs.declared.encoding.Encoding.{Encoding}
+use Rattle.format.specs.declared.encoding.Encoding.TheVariants.{Plain, Varint, BitPacked, FrameOfReference, RunLength, Dictionary, DeltaBinaryPacked}
 use Rattle.format.proofs.Numbers.Distinct.{distinct_values-all}
 
--- the lists have seven places, as the struct's arrays have
-pub estimates-seven : (column : List ℤ) → (length (estimates_of column).lengths ≡ 7) × (length (estimates_of column).available ≡ 7)
+-- the list has seven places, as the struct's array has
+pub estimates-seven : (column : List ℤ) → length (estimates_of column).lengths ≡ 7
 unfolding estimates_of estimates_from
-estimates-seven column = (refl, refl)
+estimates-seven column = refl
 
 -- ---- availability: "Dictionary needs at most 16,384 distinct values, Delta at least two values; the other five need nothing to be available."
 
@@ -60,10 +61,15 @@ is_exact-cardinality column = go (ltb max_dictionary_cardinality (length (distin
     go true e = sym (lt-leb _ _ (ltb-true max_dictionary_cardinality (length (distinct column)) e))
     go false e = sym (le-leb _ _ (ltb-false max_dictionary_cardinality (length (distinct column)) e))
 
+-- a length is there where it is available
+sized : (t : Bool) (n : ℕ) → is_some (size_if t n) ≡ t
+sized true n = refl
+sized false n = refl
+
 -- Dictionary is available exactly where there are at most 16,384 distinct values
 pub dictionary-availability : (column : List ℤ) → available_in (estimates_of column) Dictionary ≡ leb (length (distinct column)) max_dictionary_cardinality
 unfolding available_in estimates_of estimates_from stats_of
-dictionary-availability column = is_exact-cardinality column
+dictionary-availability column = sized _ _ ∙ is_exact-cardinality column
 
 -- so it is where there are so few,
 pub dictionary-available : (column : List ℤ) → length (distinct column) ≤ max_dictionary_cardinality → available_in (estimates_of column) Dictionary ≡ true
@@ -76,7 +82,7 @@ dictionary-few column e = leb-true _ _ (sym (dictionary-availability column) ∙
 -- Delta is available exactly where there are at least two values
 pub delta-availability : (column : List ℤ) → available_in (estimates_of column) DeltaBinaryPacked ≡ leb 2 (length column)
 unfolding available_in estimates_of estimates_from stats_of
-delta-availability column = refl
+delta-availability column = sized _ _
 
 -- so it is where there are two,
 pub delta-available : (column : List ℤ) → 2 ≤ length column → available_in (estimates_of column) DeltaBinaryPacked ≡ true

@@ -18,8 +18,8 @@ use Rattle.format.specs.Dictionary.{dictionary_body_with, dictionary_body}
 use Rattle.format.specs.Chunk.{body_of, chunk_of}
 use Rattle.format.specs.Estimates.{estimates_of, length_in, available_in}
 use Rattle.format.specs.Keys.{Keys}
-use Rattle.format.specs.declared.Encoding.{Encoding}
-use Rattle.format.specs.declared.Encoding.TheVariants.{Plain, Varint, BitPacked, FrameOfReference, RunLength, Dictionary, DeltaBinaryPacked}
+use Rattle.format.specs.declared.encoding.Encoding.{Encoding}
+use Rattle.format.specs.declared.encoding.Encoding.TheVariants.{Plain, Varint, BitPacked, FrameOfReference, RunLength, Dictionary, DeltaBinaryPacked}
 use Rattle.format.proofs.Lengths.Parts.{length-plain_body, length-varint_body, length-packed_body, length-run_bytes, length-entry_bytes}
 use Rattle.format.proofs.Numbers.Packing.{length-packed}
 use Rattle.format.proofs.Numbers.Uvarints.{length-uvarint_bytes}

@@ -22,8 +22,8 @@ use Rattle.format.specs.Dictionary.{code_width}
 use Rattle.format.specs.Delta.{delta_block_size, block_count}
 use Rattle.format.specs.Statistics.{run_len}
 use Rattle.format.specs.Estimates.{gaps_len, entries_len, estimates_of, length_in, available_in}
-use Rattle.format.specs.declared.Encoding.{Encoding}
-use Rattle.format.specs.declared.Encoding.TheVariants.{Plain, Varint, BitPacked, FrameOfReference, RunLength, Dictionary, DeltaBinaryPacked}
+use Rattle.format.specs.declared.encoding.Encoding.{Encoding}
+use Rattle.format.specs.declared.encoding.Encoding.TheVariants.{Plain, Varint, BitPacked, FrameOfReference, RunLength, Dictionary, DeltaBinaryPacked}
 use Rattle.format.proofs.Numbers.Widths.{width-le, uvarint_len-pos, uvarint_len-le, uvarint_len-least}
 use Rattle.format.proofs.Numbers.Packing.{packed_len-most}
 use Rattle.format.proofs.Numbers.Distinct.{length-distinct}

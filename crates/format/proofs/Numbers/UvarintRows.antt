@@ -8,12 +8,12 @@ use native.Mathlib.Nat.{add-zero, add_assoc}
 use native.Mathlib.Omega.{arith}
 use lib.ListN.{length, length-append}
 use Rattle.format.specs.Outcome.{ok}
-use Rattle.format.specs.Varint.{uvarint_bytes, UvarintRead, first_padded, validate_uvarints, uvarint_values, after_uvarints}
+use Rattle.format.specs.Varint.{uvarint_bytes, first_padded, validate_uvarints, uvarint_values, after_uvarints}
+use Rattle.format.specs.declared.Uvarint.{Uvarint}
 use Rattle.format.proofs.Numbers.All.{all_none, all_more, Below}
 use Rattle.format.proofs.Numbers.Occurs.{Occurs, occurs-first, occurs-next}
 use Rattle.format.proofs.Numbers.Uvarints.{uvarint_bytes-some, read_uvarint-back, uvarint_at-back}
-use Rattle.format.specs.declared.Padded.{Padded}
-use Rattle.format.specs.declared.Padded.TheVariants.{Nowhere, At}
+use Rattle.std.specs.Prelude.{Option, Some, None}
 
 -- numbers, each as a varint
 unfoldable pub uvarints_bytes : List ℕ → List ℕ
@@ -27,9 +27,9 @@ uvarints_bytes-room [] = omega arith
 uvarints_bytes-room (x ∷ xs) = simp length-append (omega (arith, uvarint_bytes-some x, uvarints_bytes-room xs))
 
 -- a varint that was written is unpadded: it leaves the first padded one as it was
-pub first_padded-unpadded : (padded : Padded) (at : ℕ) → first_padded padded at true ≡ padded
-first_padded-unpadded Nowhere at = refl
-first_padded-unpadded (At a) at = refl
+pub first_padded-unpadded : (padded : Option ℕ) (at : ℕ) → first_padded padded at true ≡ padded
+first_padded-unpadded None at = refl
+first_padded-unpadded (Some a) at = refl
 
 -- the place after the first of them and the others is the place after all
 after_first : (at x : ℕ) (xs : List ℕ) → at + length (uvarint_bytes x) + length (uvarints_bytes xs) ≡ at + length (uvarints_bytes (x ∷ xs))
@@ -38,7 +38,7 @@ after_first at x xs = add_assoc at _ _ ∙ ap (λ (n : ℕ). at + n) (sym (lengt
 
 -- READ BACK: numbers below 2^64 that were written in a row pass, and end after the last; the first padded varint stays what it was
 pub validate_uvarints-back :
-    {s : List ℕ} {at : ℕ} {xs : List ℕ} (padded : Padded) → Below (2 ^ 64) xs → Occurs s at (uvarints_bytes xs)
+    {s : List ℕ} {at : ℕ} {xs : List ℕ} (padded : Option ℕ) → Below (2 ^ 64) xs → Occurs s at (uvarints_bytes xs)
     → validate_uvarints s at (length xs) padded ≡ ok (record { end = at + length (uvarints_bytes xs); padded = padded })
 unfolding uvarints_bytes validate_uvarints
 validate_uvarints-back {at} padded all_none o = ap (λ (n : ℕ). ok (record { end = n; padded = padded })) (sym (add-zero at))
@@ -61,6 +61,6 @@ pub after_uvarints-back :
 unfolding uvarints_bytes after_uvarints
 after_uvarints-back {at} all_none o = sym (add-zero at)
 after_uvarints-back {s} {at} (all_more {x} {xs} h b) o =
-    ap (λ (v : UvarintRead). after_uvarints s v.next (length xs)) (uvarint_at-back x h (occurs-first (uvarint_bytes x) (uvarints_bytes xs) o))
+    ap (λ (v : Uvarint). after_uvarints s v.next (length xs)) (uvarint_at-back x h (occurs-first (uvarint_bytes x) (uvarints_bytes xs) o))
     ∙ after_uvarints-back {at = at + length (uvarint_bytes x)} b (occurs-next (uvarint_bytes x) (uvarints_bytes xs) o)
     ∙ after_first at x xs

@@ -12,7 +12,8 @@ use lib.Seq.{slice, take-nil, get_or-drop, take_at}
 use borrow.Author.Tests.{lt-ltb, le-ltb, ne_eqb, eq-eqb}
 use Rattle.format.specs.Outcome.{Outcome, ok, ◌>>=◌, value_or}
 use Rattle.format.specs.Digits.{of_digits, digits}
-use Rattle.format.specs.Varint.{uvarint_len, continued, uvarint_bytes, uvarint_end, uvarint_value, ends_unpadded, UvarintRead, read_uvarint, uvarint_at}
+use Rattle.format.specs.Varint.{uvarint_len, continued, uvarint_bytes, uvarint_end, uvarint_value, ends_unpadded, read_uvarint, uvarint_at}
+use Rattle.format.specs.declared.Uvarint.{Uvarint}
 use Rattle.format.proofs.Numbers.All.{all_none, all_more, Below}
 use Rattle.format.proofs.Numbers.Digits.{length_digits, below-digits, of_digits-digits}
 use Rattle.format.proofs.Numbers.Occurs.{Occurs}
@@ -98,7 +99,7 @@ unpadded-last at (suc n) x h f =
     rw (ne_eqb (at + suc (suc n)) (at + 1) (λ w. omega arith), ne_eqb (x / 128 ^ suc n % 128) 0 z)
 
 -- what reading finds in s between two places
-abbrev found_in : List ℕ → ℕ → ℕ → Outcome UvarintRead
+abbrev found_in : List ℕ → ℕ → ℕ → Outcome Uvarint
 found_in s at n = ok (record { value = uvarint_value s at n; next = n; unpadded = ends_unpadded s at n })
 
 module _ (s : List ℕ) (at n x : ℕ) (rest : List ℕ) (e : drop at s ≡ continued (digits 128 (suc n) x) ++ rest) where
@@ -134,7 +135,7 @@ module _ (s : List ℕ) (at n x : ℕ) (rest : List ℕ) (e : drop at s ≡ cont
       ∙ ap₂ (λ (v : ℕ) (t : Bool). ok (record { value = v; next = at + suc n; unpadded = t })) (value-groups h k) (unpadded-groups k f)
 
 -- what reading finds at `at`, where the varint of x was written there
-abbrev pub uvarint_written : ℕ → ℕ → UvarintRead
+abbrev pub uvarint_written : ℕ → ℕ → Uvarint
 uvarint_written at x = record { value = x; next = at + length (uvarint_bytes x); unpadded = true }
 
 module _ {s : List ℕ} {at : ℕ} (x : ℕ) (h : x < 2 ^ 64) (o : Occurs s at (uvarint_bytes x)) where
@@ -155,4 +156,4 @@ module _ {s : List ℕ} {at : ℕ} (x : ℕ) (h : x < 2 ^ 64) (o : Occurs s at (
   -- the same for what is read again
   pub uvarint_at-back : uvarint_at s at ≡ uvarint_written at x
   unfolding uvarint_at
-  uvarint_at-back = ap (λ (r : Outcome UvarintRead). value_or (record { value = 0; next = 0; unpadded = true }) r) read_uvarint-back
+  uvarint_at-back = ap (λ (r : Outcome Uvarint). value_or (record { value = 0; next = 0; unpadded = true }) r) read_uvarint-back

@@ -14,8 +14,8 @@ use lib.Dec.{ltb, eqb, lit≤}
 use Rattle.format.specs.Encodings.{id_of, encodings, decode_cost_rank}
 use Rattle.format.specs.Estimates.{length_in, available_in}
 use Rattle.format.specs.Plan.{better, best_from, best}
-use Rattle.format.specs.declared.Encoding.{Encoding}
-use Rattle.format.specs.declared.Encoding.TheVariants.{Plain, Varint, BitPacked, FrameOfReference, RunLength, Dictionary, DeltaBinaryPacked}
+use Rattle.format.specs.declared.encoding.Encoding.{Encoding}
+use Rattle.format.specs.declared.encoding.Encoding.TheVariants.{Plain, Varint, BitPacked, FrameOfReference, RunLength, Dictionary, DeltaBinaryPacked}
 use Rattle.format.specs.declared.SizeEstimates.{SizeEstimates}
 use Rattle.format.proofs.Codecs.Encodings.{id_same, id_of-high, rank-small}
 

@@ -19,9 +19,8 @@ use Rattle.format.specs.Estimates.{estimates_of, available_in}
 use Rattle.format.specs.Write.{for_dictionary, write_checks, write_outcome, write_answer, write_output}
 use Rattle.format.specs.Plan.{plan_of, plan_checks, plan_answer}
 use Rattle.format.specs.ThirdDemand.{chunk_stored, WritingScratch}
-use Rattle.format.specs.declared.Encoding.{Encoding}
-use Rattle.format.specs.declared.Encoding.TheVariants.{Plain, Varint, BitPacked, FrameOfReference, RunLength, Dictionary, DeltaBinaryPacked}
-use Rattle.format.specs.declared.Answer.TheVariants.{Accepted}
+use Rattle.format.specs.declared.encoding.Encoding.{Encoding}
+use Rattle.format.specs.declared.encoding.Encoding.TheVariants.{Plain, Varint, BitPacked, FrameOfReference, RunLength, Dictionary, DeltaBinaryPacked}
 use Rattle.format.proofs.Numbers.Distinct.{not-too_many_distinct}
 use Rattle.format.proofs.Codecs.Encodings.{encoding_of-id, id-within}
 use Rattle.format.proofs.Lengths.Estimates.{dictionary-few}
@@ -58,7 +57,7 @@ module _ (level : ℕ) (column : List ℤ) (room : ℕ)
   plan_checks-ok = rw (le-leb level 9 level-most) (analysis_checks-ok column room size enough)
 
   -- so planning is accepted, with the column's plan
-  pub plan_answer-accepted : plan_answer level column room ≡ record { answer = Accepted (length (capped_distinct column)); plan = plan_of level column }
+  pub plan_answer-accepted : plan_answer level column room ≡ record { answer = ok (length (capped_distinct column)); plan = plan_of level column }
   unfolding plan_answer
   plan_answer-accepted = rw plan_checks-ok
 
@@ -104,7 +103,7 @@ available-few column e there p =
 -- an available encoding is written, where enough is lent: the answer is accepted,
 pub write_answer-accepted :
     (e : Encoding) (column : List ℤ) (room space : ℕ) → length column ≤ max_chunk_elements → available_in (estimates_of column) e ≡ true
-    → WritingScratch column e room → length (chunk_of e column) ≤ space → write_answer (id_of e) column room space ≡ Accepted (length (chunk_of e column))
+    → WritingScratch column e room → length (chunk_of e column) ≤ space → write_answer (id_of e) column room space ≡ ok (length (chunk_of e column))
 unfolding write_answer
 write_answer-accepted e column room space size there enough fits =
     ap stored_answer (write_outcome-ok e column room size enough space (available-few column e there) fits)

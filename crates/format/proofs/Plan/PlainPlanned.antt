@@ -2,7 +2,6 @@
 -- exceeds 19 times at 4 to 6, and 100 times exceeds 99 times at 7 to 9." The length is that of the best candidate. Where another than Plain is the best, the
 -- plan takes Plain exactly if the test of gain is not met; where Plain is the best, it is taken, and its own length does not meet the test either.
 use mathlib.Core.Path.{◌≡◌, refl, sym, ap, ◌∙◌, subst}
-use mathlib.Core.Logic.Iff
 use mathlib.Core.Logic.{◌↔◌}
 use Prim.Native.Nat.{ℕ, ◌*◌, ◌≤◌, ◌<◌}
 use native.Mathlib.Nat.{le_trans, le_of_eq}
@@ -15,13 +14,14 @@ use lib.ListN.{length}
 use Rattle.format.specs.Encodings.{max_chunk_elements}
 use Rattle.format.specs.Estimates.{estimates_of, length_in}
 use Rattle.format.specs.Plan.{meets_gain, encoding_for, plan_of}
-use Rattle.format.specs.declared.Encoding.TheVariants.{Plain}
+use Rattle.format.specs.declared.encoding.Encoding.TheVariants.{Plain}
 use Rattle.format.specs.declared.PlanReason.{PlanReason}
 use Rattle.format.specs.declared.PlanReason.TheVariants.{Empty, CompressionDisabled, SmallestEstimate, GainBelowThreshold}
 use Rattle.format.proofs.Lengths.Estimates.{plain-available}
 use Rattle.format.proofs.Lengths.Limits.{plain-some, plain-limit}
 use Rattle.format.proofs.Plan.Gain.{LevelFraction, levels-1-3, levels-4-6, levels-7-9, level-positive, plain-no-gain, gain-at-level}
 use Rattle.format.proofs.Plan.Plan.{ReasonCase, no-values, level-0, best-is-plain, gain-met, gain-not-met, best_of, shortest_length, plain_length, plan-encoding, shortest_length-least, plan-case}
+use mathlib.Core.Logic.Iff
 
 module _ (level : ℕ) (column : List ℤ) (some : 0 < length column) (size : length column ≤ max_chunk_elements) where
   -- at levels 1 to 9 Plain is planned exactly where the best candidate does not meet the test of gain

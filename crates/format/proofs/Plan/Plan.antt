@@ -16,8 +16,8 @@ use Rattle.format.specs.Encodings.{id_of}
 use Rattle.format.specs.Statistics.{stats_of}
 use Rattle.format.specs.Estimates.{estimates_of, length_in, available_in}
 use Rattle.format.specs.Plan.{best, meets_gain, reason_of, encoding_for, plan_from, plan_of}
-use Rattle.format.specs.declared.Encoding.{Encoding}
-use Rattle.format.specs.declared.Encoding.TheVariants.{Plain}
+use Rattle.format.specs.declared.encoding.Encoding.{Encoding}
+use Rattle.format.specs.declared.encoding.Encoding.TheVariants.{Plain}
 use Rattle.format.specs.declared.PlanReason.{PlanReason}
 use Rattle.format.specs.declared.PlanReason.TheVariants.{Empty, CompressionDisabled, SmallestEstimate, GainBelowThreshold}
 use Rattle.format.specs.declared.SizeEstimates.{SizeEstimates}

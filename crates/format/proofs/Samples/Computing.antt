@@ -21,7 +21,7 @@ use Rattle.format.specs.Delta.{block_count, block_bytes, blocks_bytes, delta_bod
 use Rattle.format.specs.Chunk.{body_of, chunk_of, validate_body, body_values}
 use Rattle.format.specs.Read.{validate, strict_checks, read_outcome, values_of, read_answer, read_column}
 use Rattle.format.specs.Write.{write_checks, write_outcome, write_answer, write_output, write_scratch}
-use Rattle.format.specs.Standalone.{packed_len_answer, pack_outcome, pack_answer, pack_output, unpack_outcome, unpack_answer, unpack_buffer, uvarint_answer, varint_answer, uvarint_write_outcome, uvarint_write_answer, uvarint_write_output, varint_write_answer, varint_write_output}
+use Rattle.format.specs.Standalone.{packed_len_answer, pack_outcome, pack_answer, pack_output, unpack_outcome, unpack_answer, unpack_buffer, read_varint, uvarint_write_outcome, uvarint_write_answer, uvarint_write_output, varint_write_answer, varint_write_output}
 use Rattle.format.specs.Statistics.{non_decreasing, non_increasing, sortedness_of, cardinality_of, run_len, stats_of, refused_stats, analysis_checks, stats_answer, analysis_scratch, distinct_values, distinct_values_part}
 use Rattle.format.specs.Estimates.{gaps_len, entries_len, plain_estimate, varint_estimate, bit_packed_estimate, frame_estimate, run_length_estimate, dictionary_estimate, delta_estimate, estimates_from, estimates_of, length_in, available_in, refused_estimates, estimates_answer}
 use Rattle.format.specs.Plan.{better, best_from, best, minimum_gain, threshold, meets_gain, reason_of, run_density, estimated_ratio, plan_from, plan_of, refused_plan, plan_checks, plan_answer, plan_scratch}
@@ -66,6 +66,6 @@ planning-computes = tt
 -- the calls on numbers and bytes alone
 unfoldable pub standalone-computes : Unit {0}
 unfolding
-    numbers-compute packed_len_answer pack_outcome pack_answer pack_output unpack_outcome unpack_answer unpack_buffer uvarint_answer varint_answer
+    numbers-compute packed_len_answer pack_outcome pack_answer pack_output unpack_outcome unpack_answer unpack_buffer read_varint
     uvarint_write_outcome uvarint_write_answer uvarint_write_output varint_write_answer varint_write_output
 standalone-computes = tt

@@ -8,19 +8,19 @@ use lib.IntN.{ℤ, pos, negsuc}
 use lib.ListN.{length, get_or}
 use borrow.Author.Tests.{lt-ltb}
 use lib.Dec.{lit<}
-use Rattle.format.specs.Outcome.{ok}
+use Rattle.format.specs.Outcome.{ok, refused}
 use Rattle.format.specs.Keys.{zigzag}
 use Rattle.format.specs.Varint.{uvarint_bytes, read_uvarint}
 use Rattle.format.specs.Packing.{width_at, packed_end}
 use Rattle.format.specs.Encodings.{encoding_of, decode_cost_rank}
-use Rattle.format.specs.Header.{Naming, unnamed, Header, read_header}
+use Rattle.format.specs.Header.{Naming, unnamed, read_header}
+use Rattle.format.specs.declared.Header.{Header}
 use Rattle.format.specs.BitPacked.{validate_bit_packed}
 use Rattle.format.specs.Chunk.{chunk_of, validate_body}
 use Rattle.format.specs.Read.{validate, read_outcome, read_answer}
 use Rattle.format.specs.Plan.{plan_of}
-use Rattle.format.specs.declared.Encoding.TheVariants.{Plain, Varint, BitPacked, RunLength, Dictionary, DeltaBinaryPacked}
+use Rattle.format.specs.declared.encoding.Encoding.TheVariants.{Plain, Varint, BitPacked, RunLength, Dictionary, DeltaBinaryPacked}
 use Rattle.format.specs.declared.PlanReason.TheVariants.{SmallestEstimate, GainBelowThreshold}
-use Rattle.format.specs.declared.Answer.TheVariants.{Refused}
 use Rattle.format.proofs.Samples.Computing.{reading-computes, planning-computes}
 
 -- [5,5,5,5]
@@ -65,17 +65,17 @@ pub record Stars : Type 0 where
       map (λ level. (plan_of level ends).reason) (1 ∷ 2 ∷ 3 ∷ 4 ∷ [])
       ≡ GainBelowThreshold ∷ GainBelowThreshold ∷ GainBelowThreshold ∷ SmallestEstimate ∷ []
   -- "★ 03 01 00 41 is 12, count 0 or not."
-  pub width-65 : read_answer false unnamed (0x03 ∷ 0x01 ∷ 0x00 ∷ 0x41 ∷ []) 0 ≡ Refused 12 0
+  pub width-65 : read_answer false unnamed (0x03 ∷ 0x01 ∷ 0x00 ∷ 0x41 ∷ []) 0 ≡ refused 12 0
   pub width-65-any :
       (strict : Bool) (naming : Naming) (s : List ℕ) (room : ℕ) (h : Header)
       → read_header naming s ≡ ok h → encoding_of h.id ≡ BitPacked → h.start < length s → get_or s h.start 0 ≡ 0x41
-      → read_answer strict naming s room ≡ Refused 12 0
+      → read_answer strict naming s room ≡ refused 12 0
 
 -- 12 is asked before the packed bytes, so the count does not matter, nor do strictness and the name
 width-65-law :
     (strict : Bool) (naming : Naming) (s : List ℕ) (room : ℕ) (h : Header)
     → read_header naming s ≡ ok h → encoding_of h.id ≡ BitPacked → h.start < length s → get_or s h.start 0 ≡ 0x41
-    → read_answer strict naming s room ≡ Refused 12 0
+    → read_answer strict naming s room ≡ refused 12 0
 unfolding read_answer read_outcome validate validate_body validate_bit_packed width_at packed_end
 width-65-law strict naming s room h header packs there byte = simp (header, packs, lt-ltb h.start (length s) there, byte)
 

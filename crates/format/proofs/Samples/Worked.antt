@@ -15,11 +15,9 @@ use Rattle.format.specs.Folds.{deltas}
 use Rattle.format.specs.Encodings.{max_chunk_elements, id_of, encodings, decode_cost_rank, max_dictionary_cardinality}
 use Rattle.format.specs.Distinct.{capped_distinct, scratch_needed, distinct, too_many_distinct}
 use Rattle.format.specs.Statistics.{analysis_checks, cardinality_of, stats_of, refused_stats, stats_answer, analysis_scratch, distinct_values_part, distinct_after_checks, distinct_values}
-use Rattle.format.specs.Estimates.{refused_estimates, estimates_answer, estimates_of, length_in}
+use Rattle.format.specs.Estimates.{refused_estimates, estimates_answer, estimates_of, length_in, available_in}
 use Rattle.format.specs.Plan.{refused_plan, plan_checks, plan_answer, as_float, meets_gain, plan_of, plan_scratch, estimated_ratio}
-use Rattle.format.specs.Standalone.{uvarint_answer, varint_answer, pack_output, unpack_buffer, uvarint_write_output}
-use Rattle.format.specs.declared.UvarintAnswer.TheVariants.{Read}
-use Rattle.format.specs.declared.VarintAnswer.TheVariants.{Read as SignedRead}
+use Rattle.format.specs.Standalone.{read_varint, pack_output, unpack_buffer, uvarint_write_output}
 use Rattle.format.proofs.Numbers.Distinct.{length-capped_distinct}
 use Rattle.format.proofs.Plan.Checks.{analysis_checks-ok}
 use Rattle.format.specs.Keys.{zigzag}
@@ -34,8 +32,7 @@ use Rattle.format.specs.Write.{write_output, write_scratch}
 use Rattle.format.specs.declared.Cardinality.TheVariants.{Exact, AtLeast}
 use Rattle.format.specs.declared.Sortedness.TheVariants.{Constant, Ascending, Descending, Unsorted}
 use Rattle.format.specs.declared.PlanReason.TheVariants.{Empty, CompressionDisabled, SmallestEstimate}
-use Rattle.format.specs.declared.Answer.TheVariants.{Accepted, Refused}
-use Rattle.format.specs.declared.Encoding.TheVariants.{Plain, BitPacked, FrameOfReference, Dictionary, DeltaBinaryPacked}
+use Rattle.format.specs.declared.encoding.Encoding.TheVariants.{Plain, BitPacked, FrameOfReference, Dictionary, DeltaBinaryPacked}
 use Rattle.format.proofs.Samples.Computing.{reading-computes, planning-computes, standalone-computes}
 use Rattle.format.proofs.Samples.Stars.{fives, ends}
 
@@ -57,14 +54,14 @@ pub record Worked : Type 0 where
   -- "0 for 0, 64 at most"
   pub widths : map width (0 ∷ 1 ∷ 255 ∷ 256 ∷ (2 ^ 64 - 1) ∷ []) ≡ 0 ∷ 1 ∷ 8 ∷ 9 ∷ 64 ∷ []
   -- "accepted, with the count of values or bytes stored, or a number with an offset, count 0"
-  pub accepted-parts : (count : ℕ) → (number_of (Accepted count) ≡ 0) × (offset_of (Accepted count) ≡ 0) × (count_of (Accepted count) ≡ count)
+  pub accepted-parts : (count : ℕ) → (number_of (ok count) ≡ 0) × (offset_of (ok count) ≡ 0) × (count_of (ok count) ≡ count)
   pub refused-parts :
       (number offset : ℕ)
-      → (number_of (Refused number offset) ≡ number) × (offset_of (Refused number offset) ≡ offset) × (count_of (Refused number offset) ≡ 0)
+      → (number_of (refused number offset) ≡ number) × (offset_of (refused number offset) ≡ offset) × (count_of (refused number offset) ≡ 0)
   -- a varint alone: AC 02 at 1 is 300, and signed 150; its next place is 3
-  pub uvarint-read : uvarint_answer (0x00 ∷ 0xac ∷ 0x02 ∷ []) 1 ≡ Read 300 3 true
-  pub varint-read : varint_answer (0x00 ∷ 0xac ∷ 0x02 ∷ []) 1 ≡ SignedRead (pos 150) 3 true
-  pub varint-odd : varint_answer (0x81 ∷ 0x00 ∷ []) 0 ≡ SignedRead (negsuc 0) 2 false
+  pub uvarint-read : read_uvarint (0x00 ∷ 0xac ∷ 0x02 ∷ []) 1 ≡ ok (record { value = 300; next = 3; unpadded = true })
+  pub varint-read : read_varint (0x00 ∷ 0xac ∷ 0x02 ∷ []) 1 ≡ ok (record { value = pos 150; next = 3; unpadded = true })
+  pub varint-odd : read_varint (0x81 ∷ 0x00 ∷ []) 0 ≡ ok (record { value = negsuc 0; next = 2; unpadded = false })
   -- "longer forms up to ten bytes are read": 80 00 is 0, and padded
   pub padded-zero : read_uvarint (0x80 ∷ 0x00 ∷ []) 0 ≡ ok (record { value = 0; next = 2; unpadded = false })
   -- "Above 16,384 distinct values the cardinality is AtLeast(16385)."
@@ -118,8 +115,8 @@ pub record Worked : Type 0 where
         delta_max = pos 0;
         delta_span = 0;
       }
-  pub no_lengths : refused_estimates.lengths ≡ 0 ∷ 0 ∷ 0 ∷ 0 ∷ 0 ∷ 0 ∷ 0 ∷ []
-  pub none-available : refused_estimates.available ≡ false ∷ false ∷ false ∷ false ∷ false ∷ false ∷ false ∷ []
+  pub no_lengths : map (length_in refused_estimates) encodings ≡ 0 ∷ 0 ∷ 0 ∷ 0 ∷ 0 ∷ 0 ∷ 0 ∷ []
+  pub none-available : map (available_in refused_estimates) encodings ≡ false ∷ false ∷ false ∷ false ∷ false ∷ false ∷ false ∷ []
   pub no-plan :
       refused_plan
       ≡ record {
@@ -132,8 +129,8 @@ pub record Worked : Type 0 where
         estimates = refused_estimates;
       }
   -- the empty column: lengths 3, 3, 4, 12, 4, 5, Delta unavailable; Plain, Empty at every level, density 0.0, ratio 1.0
-  pub empty-lengths : (estimates_of []).lengths ≡ 3 ∷ 3 ∷ 4 ∷ 12 ∷ 4 ∷ 5 ∷ 0 ∷ []
-  pub empty-available : (estimates_of []).available ≡ true ∷ true ∷ true ∷ true ∷ true ∷ true ∷ false ∷ []
+  pub empty-lengths : map (length_in (estimates_of [])) encodings ≡ 3 ∷ 3 ∷ 4 ∷ 12 ∷ 4 ∷ 5 ∷ 0 ∷ []
+  pub empty-available : map (available_in (estimates_of [])) encodings ≡ true ∷ true ∷ true ∷ true ∷ true ∷ true ∷ false ∷ []
   pub empty-reasons : map (λ level. (plan_of level []).reason) (0 ∷ 1 ∷ 9 ∷ []) ≡ Empty ∷ Empty ∷ Empty ∷ []
   pub empty-density : (plan_of 6 []).run_density ≡ as_float 0
   pub empty-ratio : (plan_of 6 []).estimated_ratio ≡ as_float 1
@@ -142,7 +139,7 @@ pub record Worked : Type 0 where
   pub fives-planned :
       plan_answer 6 fives 4
       ≡ record {
-        answer = Accepted 1;
+        answer = ok 1;
         plan =
             record {
               encoding = BitPacked;
@@ -158,7 +155,7 @@ pub record Worked : Type 0 where
   pub ratios : (estimated_ratio 5 0 ≡ fin false 1 (pos 0)) × (estimated_ratio 5 1 ≡ fin false 5 (pos 0))
   pub ends-ratio : (plan_of 1 ends).estimated_ratio ≡ fin false 1 (pos 0)
   -- the seven lengths of [5,5,5,5]
-  pub fives-lengths : (estimates_of fives).lengths ≡ 35 ∷ 7 ∷ 6 ∷ 12 ∷ 6 ∷ 6 ∷ 8 ∷ []
+  pub fives-lengths : map (length_in (estimates_of fives)) encodings ≡ 35 ∷ 7 ∷ 6 ∷ 12 ∷ 6 ∷ 6 ∷ 8 ∷ []
   -- "Level 0, Plain, CompressionDisabled."
   pub level-0 : ((plan_of 0 fives).encoding ≡ Plain) × ((plan_of 0 fives).reason ≡ CompressionDisabled)
   -- "Gain is 0.20 at levels 1 to 3, 0.05 at 4 to 6, 0.01 above": of 100 bytes, 80, 95 and 99 are met, and 81, 96 and 100 are not
@@ -171,8 +168,8 @@ pub record Worked : Type 0 where
   pub sheet-met : meets_gain 6 1060 1007 ≡ true
   pub sheet-missed : meets_gain 6 1060 1008 ≡ false
   -- "Count 2^24 is read", "Block size 2^20 is read"
-  pub count_most : read_answer true unnamed (0x03 ∷ 0x01 ∷ 0x80 ∷ 0x80 ∷ 0x80 ∷ 0x08 ∷ 0x00 ∷ []) (2 ^ 24) ≡ Accepted (2 ^ 24)
-  pub block-most : read_answer true unnamed (0x07 ∷ 0x01 ∷ 0x01 ∷ 0x0a ∷ 0x80 ∷ 0x80 ∷ 0x40 ∷ []) 1 ≡ Accepted 1
+  pub count_most : read_answer true unnamed (0x03 ∷ 0x01 ∷ 0x80 ∷ 0x80 ∷ 0x80 ∷ 0x08 ∷ 0x00 ∷ []) (2 ^ 24) ≡ ok (2 ^ 24)
+  pub block-most : read_answer true unnamed (0x07 ∷ 0x01 ∷ 0x01 ∷ 0x0a ∷ 0x80 ∷ 0x80 ∷ 0x40 ∷ []) 1 ≡ ok 1
   -- "8 bytes a value, little-endian": −2; "least value (8 bytes), width byte, packed differences from it": 7 and 10
   pub plain-bytes : chunk_of Plain (negsuc 1 ∷ []) ≡ 0x01 ∷ 0x01 ∷ 0x01 ∷ 0xfe ∷ 0xff ∷ 0xff ∷ 0xff ∷ 0xff ∷ 0xff ∷ 0xff ∷ 0xff ∷ []
   pub frame-bytes : chunk_of FrameOfReference (pos 7 ∷ pos 10 ∷ []) ≡ 0x04 ∷ 0x01 ∷ 0x02 ∷ 7 ∷ 0 ∷ 0 ∷ 0 ∷ 0 ∷ 0 ∷ 0 ∷ 0 ∷ 0x02 ∷ 0x0c ∷ []
@@ -200,12 +197,12 @@ pub record Worked : Type 0 where
   -- 18 leaves the column buffer as it was
   pub code-over-column : read_column false unnamed (0x06 ∷ 0x01 ∷ 0x02 ∷ 0x01 ∷ 0x0a ∷ 0x01 ∷ 0x02 ∷ []) (pos 7 ∷ pos 8 ∷ []) ≡ pos 7 ∷ pos 8 ∷ []
   -- an accepted count is that of the values at the scratch's front; "the part is empty .. where 21 or 22 refuses"
-  pub stats-given : stats_answer fives 4 ≡ record { answer = Accepted 1; stats = stats_of fives }
-  pub estimates-given : estimates_answer fives 4 ≡ record { answer = Accepted 1; estimates = estimates_of fives }
+  pub stats-given : stats_answer fives 4 ≡ record { answer = ok 1; stats = stats_of fives }
+  pub estimates-given : estimates_answer fives 4 ≡ record { answer = ok 1; estimates = estimates_of fives }
   pub counts-capped :
       (column : List ℤ) (room : ℕ) → length column ≤ max_chunk_elements → scratch_needed column ≤ room → 16384 ≤ length (distinct column)
-      → ((stats_answer column room).answer ≡ Accepted 16384) × ((estimates_answer column room).answer ≡ Accepted 16384)
-      × ((plan_answer 9 column room).answer ≡ Accepted 16384)
+      → ((stats_answer column room).answer ≡ ok 16384) × ((estimates_answer column room).answer ≡ ok 16384)
+      × ((plan_answer 9 column room).answer ≡ ok 16384)
   pub part : distinct_values_part ends 2 ≡ ends
   pub part-refused : distinct_values_part ends 1 ≡ []
   pub part-over : (column : List ℤ) (room : ℕ) → too_many_distinct column ≡ true → distinct_values_part column room ≡ []
@@ -241,13 +238,13 @@ over-distinct-law column h = rw (lt-ltb max_dictionary_cardinality (length (dist
 -- and 16,384 values are stored
 counts-capped-law :
     (column : List ℤ) (room : ℕ) → length column ≤ max_chunk_elements → scratch_needed column ≤ room → 16384 ≤ length (distinct column)
-    → ((stats_answer column room).answer ≡ Accepted 16384) × ((estimates_answer column room).answer ≡ Accepted 16384)
-    × ((plan_answer 9 column room).answer ≡ Accepted 16384)
+    → ((stats_answer column room).answer ≡ ok 16384) × ((estimates_answer column room).answer ≡ ok 16384)
+    × ((plan_answer 9 column room).answer ≡ ok 16384)
 unfolding stats_answer estimates_answer plan_answer plan_checks
 counts-capped-law column room size enough many =
     let passed : analysis_checks column room ≡ ok tt = analysis_checks-ok column room size enough in
     let stored : length (capped_distinct column) ≡ 16384 = omega (arith, length-capped_distinct column) in
-    (rw passed (ap Accepted stored), rw passed (ap Accepted stored), rw passed (ap Accepted stored))
+    (rw passed (ap ok stored), rw passed (ap ok stored), rw passed (ap ok stored))
 
 -- and no part is handed back
 part-over-law : (column : List ℤ) (room : ℕ) → too_many_distinct column ≡ true → distinct_values_part column room ≡ []

@@ -16,7 +16,7 @@ use Rattle.format.specs.Keys.{zigzag}
 use Rattle.format.specs.Varint.{uvarint_len, uvarint_bytes}
 use Rattle.format.specs.Packing.{packed_len, packed, unpacked, packed_end}
 use Rattle.format.specs.Encodings.{encoding_of, within, max_chunk_elements}
-use Rattle.format.specs.Answers.{answer_of, stored_answer, buffer_after, stored}
+use Rattle.format.specs.Answers.{stored_answer, buffer_after, stored}
 use Rattle.format.specs.Header.{Naming}
 use Rattle.format.specs.Distinct.{too_many_distinct, capped_distinct, scratch_needed, scratch_check, collected, distinct}
 use Rattle.format.specs.Chunk.{chunk_of}
@@ -25,9 +25,8 @@ use Rattle.format.specs.Write.{for_dictionary, write_checks, write_outcome, writ
 use Rattle.format.specs.Standalone.{pack_outcome, pack_output, unpack_outcome, unpack_buffer, uvarint_write_outcome, uvarint_write_output, varint_write_output}
 use Rattle.format.specs.Statistics.{analysis_checks, scratch_after, analysis_scratch, distinct_values_part, distinct_values, distinct_after_checks}
 use Rattle.format.specs.Plan.{plan_checks, plan_scratch}
-use Rattle.format.specs.declared.Answer.TheVariants.{Accepted}
-use Rattle.format.specs.declared.Encoding.{Encoding}
-use Rattle.format.specs.declared.Encoding.TheVariants.{Plain, Varint, BitPacked, FrameOfReference, RunLength, Dictionary, DeltaBinaryPacked}
+use Rattle.format.specs.declared.encoding.Encoding.{Encoding}
+use Rattle.format.specs.declared.encoding.Encoding.TheVariants.{Plain, Varint, BitPacked, FrameOfReference, RunLength, Dictionary, DeltaBinaryPacked}
 use Rattle.format.proofs.Numbers.Packing.{length-packed}
 use Rattle.format.proofs.Numbers.Uvarints.{length-uvarint_bytes}
 use Rattle.format.proofs.Numbers.Distinct.{capped_distinct-most, capped_distinct-all, few-distinct}
@@ -71,9 +70,9 @@ module _ (strict : Bool) (naming : Naming) (s : List ℕ) where
   read_count room = go (read_outcome strict naming s room) refl
     where
       go : (o : Outcome Validated) → read_outcome strict naming s room ≡ o
-          → answer_of (o >>= λ c. ok c.header.count) ≡ stored_answer (o >>= λ c. ok (values_of s c))
+          → (o >>= λ c. ok c.header.count) ≡ stored_answer (o >>= λ c. ok (values_of s c))
       go (refused number offset) h = refl
-      go (ok c) h = ap Accepted (sym (values-count naming s c (read-passed strict naming s room h).0))
+      go (ok c) h = ap ok (sym (values-count naming s c (read-passed strict naming s room h).0))
 
   -- the column buffer keeps its length
   pub length-read_column : (column : List ℤ) → length (read_column strict naming s column) ≡ length column

@@ -18,15 +18,15 @@ use Rattle.format.specs.Read.{read_answer, read_column}
 use Rattle.format.specs.Estimates.{estimates_of, length_in, available_in}
 use Rattle.format.specs.Plan.{plan_of, meets_gain}
 use Rattle.format.specs.ThirdDemand.{NamedFor, chunk_stored, WritingScratch, ThirdDemand}
-use Rattle.format.specs.declared.Encoding.{Encoding}
-use Rattle.format.specs.declared.Encoding.TheVariants.{Plain, DeltaBinaryPacked}
+use Rattle.format.specs.declared.encoding.Encoding.{Encoding}
+use Rattle.format.specs.declared.encoding.Encoding.TheVariants.{Plain, DeltaBinaryPacked}
 use Rattle.format.specs.declared.PlanReason.TheVariants.{GainBelowThreshold}
-use Rattle.format.specs.declared.Answer.TheVariants.{Accepted}
 use Rattle.format.proofs.Codecs.Chunk.{read_answer-back, read_column-front}
 use Rattle.format.proofs.Lengths.Exact.{plain-exact, chunk-exact}
 use Rattle.format.proofs.Lengths.Chunks.{chunk-at-most}
 use Rattle.format.proofs.Plan.Plan.{plan-estimates, plan-bytes, plan-plain, plan-available, plan-not-above, plan-smallest, plan-no-gain}
 use Rattle.format.proofs.Plan.Checks.{plan_answer-accepted, write_answer-accepted, chunk_stored-chunk}
+use Rattle.format.specs.Outcome.{ok}
 
 -- the encoding planned
 abbrev planned : ℕ → List ℤ → Encoding
@@ -82,7 +82,7 @@ module _ (column : List ℤ) (keys : Keys column) (size : length column ≤ max_
   planned-fits = le_trans (planned-at-most column keys level) output-room
 
   -- writing is accepted,
-  written : write_answer (id_of (planned level column)) column (length scratch) (length output) ≡ Accepted (length (chunk_of (planned level column) column))
+  written : write_answer (id_of (planned level column)) column (length scratch) (length output) ≡ ok (length (chunk_of (planned level column) column))
   written = write_answer-accepted (planned level column) column (length scratch) (length output) size (plan-available level column) scratch-room planned-fits
 
   -- and "the bytes that writing stored" are the chunk
@@ -92,7 +92,7 @@ module _ (column : List ℤ) (keys : Keys column) (size : length column ≤ max_
   module _ (buffer : List ℤ) (buffer-room : length column ≤ length buffer)
       (strict : Bool) (naming : Naming) (names : NamedFor (planned level column) naming) where
     -- reading those bytes is accepted, with the column's count,
-    read-accepted : read_answer strict naming (chunk_stored (planned level column) column scratch output) (length buffer) ≡ Accepted (length column)
+    read-accepted : read_answer strict naming (chunk_stored (planned level column) column scratch output) (length buffer) ≡ ok (length column)
     read-accepted = rw stored-chunk (read_answer-back (planned level column) strict column keys size names (length buffer) buffer-room)
 
     -- "and the buffer's front holds its keys"

@@ -1,11 +1,7 @@
--- `keys::fill_run` meets its contract: what is left of the copies is one and then the others.
-use native.Mathlib.Nat.{add_assoc}
-use borrow.Author.Rules.{rules}
-use Rattle.format.proofs.Numbers.Stores.{storing-one}
-use Rattle.keys.proofs.Filling.{replicate-first}
+-- What is left of the copies is one and then the others.
+use native.Mathlib.Omega.{arith}
+use Rattle.keys.proofs.Filling.{copy_more}
 use Rattle.keys.proofs.fill_run.Goals as goal
 
 pub loop-i-preserved : goal.loop-i-preserved
-loop-i-preserved c =
-    let one = replicate-first c.args.times c.loop-i.i _ (search rules) in
-    (search rules, rw (← add_assoc) (storing-one c.loop-i.invariant.1 _ _ one))
+loop-i-preserved c = let l = c.loop-i in (omega arith, copy_more c.args.at l.i c.args.times _ l.invariant.1 (omega arith))

@@ -1,4 +1,4 @@
--- `keys::fill_run` meets its contract: what is left of the copies is one and then the others.
+-- What is left of the copies is one and then the others.
 use Prim.Native.Nat.{◌+◌, ◌-◌, ◌≤◌}
 use lib.ListN.{replicate}
 use Rattle.format.proofs.Numbers.Stores.{Storing}
@@ -6,6 +6,3 @@ use Rattle.keys.proofs.fill_run.Given as goal
 
 abbrev pub invariant-loop-i : goal.invariant-loop-i
 invariant-loop-i l = (l.i ≤ l.times) × Storing (replicate l.times l.key) l.initial.column l.at (replicate (l.times - l.i) l.key) l.column (l.at + l.i)
-
-abbrev pub decreases-loop-i : goal.decreases-loop-i
-decreases-loop-i l = l.times - l.i

@@ -27,7 +27,7 @@ pub overflow_add-result : goal.overflow_add-result
 unfolding uvarint_write_answer
 overflow_add-result c =
     let a = c.args in
-    let told = rw (part-rest a.at a.out.now, length-drop a.at a.out.now) at c.in-Accepted.ensures in
+    let told = rw (part-rest a.at a.out.now, length-drop a.at a.out.now) at c.in-Ok.ensures in
     let space = length a.out.now - a.at in
     let fits = uvarint-fits a.value space in
     let room = accepted-fits (uvarint_write_outcome a.value space) fits (sym told.value) in
@@ -38,7 +38,7 @@ pub returns : goal.returns
 unfolding uvarint_write_answer uvarint_write_output
 returns c =
     let a = c.args in
-    let told = rw (part-rest a.at a.out.now, length-drop a.at a.out.now) at c.in-Accepted.ensures in
+    let told = rw (part-rest a.at a.out.now, length-drop a.at a.out.now) at c.in-Ok.ensures in
     let space = length a.out.now - a.at in
     let fits = uvarint-fits a.value space in
     record { value = end-accepted (uvarint_write_outcome a.value space) a.at (sym told.value); out_after = placed-whole a.at a.out.now _ c.if-out-at.false fits told.out_after }

@@ -27,7 +27,7 @@ pub overflow_add-result : goal.overflow_add-result
 unfolding pack_answer
 overflow_add-result c =
     let a = c.args in
-    let told = rw (part-rest a.at a.out.now, length-drop a.at a.out.now) at c.in-Accepted.ensures in
+    let told = rw (part-rest a.at a.out.now, length-drop a.at a.out.now) at c.in-Ok.ensures in
     let space = length a.out.now - a.at in
     let fits = packed-fits a.values.now a.width space in
     let room = accepted-fits (pack_outcome a.values.now a.width space) fits (sym told.0) in
@@ -38,7 +38,7 @@ pub returns : goal.returns
 unfolding pack_answer pack_output
 returns c =
     let a = c.args in
-    let told = rw (part-rest a.at a.out.now, length-drop a.at a.out.now) at c.in-Accepted.ensures in
+    let told = rw (part-rest a.at a.out.now, length-drop a.at a.out.now) at c.in-Ok.ensures in
     let space = length a.out.now - a.at in
     let fits = packed-fits a.values.now a.width space in
     record { value = end-accepted (pack_outcome a.values.now a.width space) a.at (sym told.0); out_after = placed-whole a.at a.out.now _ c.if-out-at.false fits told.1 }

@@ -1,14 +1,14 @@
 -- `varint::write_uvarint` meets its contract. The loop's invariant is `Writing`; its measure is the rest.
 use Rattle.std.proofs.Common.{◌<◌, sym, ap, ◌∙◌, arith, length-set, ltb-false, ltb-true}
-use Rattle.format.specs.declared.Answer.TheVariants.{Refused}
 use Rattle.varint.proofs.Writing.{begin, inside, again, answer-last, output-last, refused-answer, refused-output}
+use Rattle.format.specs.Outcome.{refused}
 use Rattle.varint.proofs.write_uvarint.Goals as goal
 
 pub returns-then-too_short : goal.returns-then-too_short
 returns-then-too_short c =
     let a = c.args in
     let h = ltb-true _ _ (sym c.too_short.ensures ∙ c.if-too_short.true) in
-    record { value = ap (Refused 20) c.uvarint_len.ensures ∙ refused-answer a.value a.out.now h; out_after = refused-output a.value a.out.now h }
+    record { value = rw c.at.ensures (ap (refused 20) c.uvarint_len.ensures) ∙ refused-answer a.value a.out.now h; out_after = refused-output a.value a.out.now h }
 
 pub loop-rest-init : goal.loop-rest-init
 loop-rest-init c = begin _ _ c.ranges.value.fits (ltb-false _ _ (sym c.too_short.ensures ∙ c.if-too_short.false))

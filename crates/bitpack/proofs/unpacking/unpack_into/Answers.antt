@@ -4,8 +4,8 @@ use Prim.Native.Nat.{◌<◌}
 use native.Mathlib.Omega.{arith}
 use lib.ListN.{length}
 use Rattle.bitpack.proofs.Unpacker.{Filled, more, over}
-use Rattle.bitpack.proofs.unpacking.unpack_into.Goals as goal
 use Rattle.bitpack.proofs.unpacking.unpack_into.Goals.{After-loop-i, After-unpack_words, In-loop-i}
+use Rattle.bitpack.proofs.unpacking.unpack_into.Goals as goal
 
 -- what the first loop filled
 filled : (c : After-unpack_words)

@@ -1,15 +1,13 @@
 -- Each of the k values has its word inside, and all its bits in that word.
-use mathlib.Core.Path.{◌∙◌}
 use Prim.Native.Nat.{◌*◌, ◌/◌, ◌<◌, zero-le}
 use native.Mathlib.Omega.{arith}
 use lib.ListN.{length}
 use Rattle.format.specs.Digits.{of_digits}
 use Rattle.format.proofs.Numbers.All.{all-by}
-use Rattle.format.proofs.Numbers.Words.{word_sum}
 use Rattle.bitpack.proofs.Fields.{low_bits}
-use Rattle.bitpack.proofs.Unpacker.{none, more, word_holds}
-use Rattle.bitpack.proofs.unpacking.unpack_words.Goals as goal
+use Rattle.bitpack.proofs.Unpacker.{none, more, word_holds, word_part}
 use Rattle.bitpack.proofs.unpacking.unpack_words.Goals.{In-loop-i}
+use Rattle.bitpack.proofs.unpacking.unpack_words.Goals as goal
 
 -- value i is one of the k
 turn : (c : In-loop-i) → c.loop-i.i < c.args.k
@@ -20,9 +18,8 @@ loop-i-preserved c =
     let l = c.loop-i in
     let a = c.args in
     let pre = c.requires in
-    let known = c.shared_slice_known-1.given in
     let room : l.i < length a.out.now = omega arith in
-    let value = low_bits (of_digits 256 a.s.now) (l.i * a.w) a.w (c.word.ensures ∙ word_sum (l.i * a.w / 8) (all-by a.s.now 0 λ j _. (known j).fits))
+    let value = low_bits (of_digits 256 a.s.now) (l.i * a.w) a.w (word_part (l.i * a.w / 8) (all-by a.s.now 0 λ j _. (c.type_inv.s j).fits) c.load.ensures)
     pre.0 (word_holds pre.3 (turn (goal.at.loop-i-preserved c).In-loop-i)) in
     (omega arith, more l.invariant.1 value room)
 

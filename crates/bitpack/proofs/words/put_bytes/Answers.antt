@@ -1,6 +1,6 @@
--- After j turns the j lowest bytes of x are stored, and y is what is above them.
+-- After j turns the j lowest bytes of x are stored, and `rest` is what is above them.
 use mathlib.Core.Path.{◌≡◌, ◌∙◌, refl, ap, sym}
-use Prim.Native.Nat.{ℕ, ◌+◌, ◌/◌, ◌^◌, zero-le}
+use Prim.Native.Nat.{ℕ, ◌+◌, ◌/◌, ◌%◌, ◌^◌, zero-le}
 use native.Mathlib.Nat.{div-one}
 use native.Mathlib.Numerals.{add-one}
 use native.Mathlib.Omega.{arith}
@@ -20,9 +20,9 @@ loop-j-preserved c =
     let a = c.args in
     let l = c.loop-j in (
       omega arith,
-      length-set l.out (a.p + l.j) c.low.result ∙ l.invariant.1,
+      length-set l.out (a.p + l.j) (l.rest % 256) ∙ l.invariant.1,
       ap (λ (z : ℕ). z / 256) l.invariant.2 ∙ div-suc 256 l.j a.x ∙ ap (λ (i : ℕ). a.x / 256 ^ i) (sym (add-one l.j)),
-      tail_step a.x l.j a.p a.out.now l.invariant.3 l.invariant.2 c.low.ensures,
+      tail_step a.x l.j a.p a.out.now l.invariant.3 l.invariant.2 refl,
     )
 
 pub returns : goal.returns
@@ -30,18 +30,6 @@ returns c =
     let a = c.args in
     let e : c.loop-j.j ≡ a.t = omega arith in
     c.loop-j.invariant.3 ∙ ap (λ (k : ℕ). sets a.out.now a.p (digits 256 k a.x)) e
-
-pub overflow_add-out : goal.overflow_add-out
-overflow_add-out c = omega arith
-
-pub bounds-out-p : goal.bounds-out-p
-bounds-out-p c = omega arith
-
-pub overflow_step-j : goal.overflow_step-j
-overflow_step-j c = omega arith
-
-pub loop-j-smaller : goal.loop-j-smaller
-loop-j-smaller c = omega arith
 
 pub shape_of-out : goal.shape_of-out
 shape_of-out c = c.loop-j.invariant.1

@@ -10,15 +10,15 @@ use Rattle.places.proofs.Mapped.{map_next, map-end}
 use Rattle.bitpacked.proofs.Widest.{gathered-more, gathered-all}
 use Rattle.bitpacked.proofs.writing.widest.Goals as goal
 
-pub loop-i-preserved : goal.loop-i-preserved
-loop-i-preserved c =
-    let l = c.loop-i in
+pub loop-value-preserved : goal.loop-value-preserved
+loop-value-preserved c =
+    let l = c.loop-value in
     let column = c.args.column.now in
-    let e = c.zigzag_encode-bits.ensures ∙ ap zigzag (held (get_or column l.i (pos 0)) (search rules)) in
-    (omega arith, gathered-more (omega arith) (rw (map_next zigzag column l.i (pos 0) (omega arith), ← e) at l.invariant.1))
+    let e = c.zigzag_encode-bits.ensures ∙ ap zigzag (held (get_or column l.value-index (pos 0)) (search rules)) in
+    gathered-more (omega arith) (rw (map_next zigzag column l.value-index (pos 0) (omega arith), ← e) at l.invariant)
 
 pub returns : goal.returns
 returns c =
-    let l = c.loop-i in
-    let none = map-end zigzag c.args.column.now l.i c.loop-i-test.false in
-    c.required_width.ensures ∙ gathered-all (rw none at l.invariant.1)
+    let l = c.loop-value in
+    let none = map-end zigzag c.args.column.now l.value-index c.loop-value-test.false in
+    c.required_width.ensures ∙ gathered-all (rw none at l.invariant)

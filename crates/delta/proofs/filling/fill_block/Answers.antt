@@ -1,46 +1,39 @@
--- `filling::fill_block` meets its contract: what is left of the packed body, summed behind what is stored, is the whole; a turn takes 128 of its values.
-use mathlib.Core.Path.{◌≡◌, refl, sym, ◌∙◌}
+-- The values are stored behind the last one (`Sums`), and the block ends after its packed bytes.
+use mathlib.Core.Path.{◌≡◌, ◌∙◌}
+use Prim.Native.Nat.{◌+◌, ◌≤◌}
+use lib.IntN.{pos}
 use native.Mathlib.Omega.{arith}
-use lib.ListN.{length, get_or, length-take}
-use lib.Seq.{length-take-le}
-use Rattle.format.specs.Packing.{packed_len}
-use Rattle.format.proofs.Numbers.All.{all-by}
-use Rattle.bitpack.proofs.Parts.{part-rest}
-use Rattle.places.proofs.Blocks.{packed-counted}
+use lib.ListN.{length, get_or}
+use borrow.Author.Rules.{rules}
+use Rattle.format.specs.Delta.{prefix_sums}
+use Rattle.format.specs.Keys.{Key}
+use Rattle.format.specs.Packing.{packed_len, packed_values}
+use Rattle.format.proofs.Codecs.Counts.{length-prefix_sums}
 use Rattle.number.proofs.Signed.{held}
-use Rattle.delta.proofs.Parts.{parts_none, parts_more, parts-done, parts-end, part-there}
+use Rattle.places.proofs.Blocks.{packed-counted}
+use Rattle.delta.specs.Summed.{from_least, summed, running}
+use Rattle.delta.proofs.Parts.{length-packed_deltas}
+use Rattle.delta.proofs.Sums.{part-filled}
 use Rattle.delta.proofs.filling.fill_block.Goals as goal
-use Rattle.delta.proofs.filling.fill_block.Goals.{After-packed_bytes-at, After-unpack}
+use Rattle.delta.proofs.filling.fill_block.Goals.{After-packed_bytes}
 
-buffer-size : (c : After-unpack) → length c.unpack.new.out ≡ 128
-buffer-size c = c.unpack.auto.out ∙ c.loop-left.invariant.size
+counted : (c : After-packed_bytes) → c.packed_bytes.result ≡ packed_len c.args.n (get_or c.args.chunk.now c.args.start 0)
+counted c = c.packed_bytes.ensures ∙ packed-counted _ _ c.requires.packed.few c.requires.packed.width
 
-pub loop-left-init : goal.loop-left-init
-loop-left-init c = let a = c.args in parts_none a.chunk.now _ _ _ a.n a.column.now a.from _ refl
+pub overflow_add-result-2 : goal.overflow_add-result-2
+overflow_add-result-2 c = omega (arith, counted (goal.at.overflow_add-result-2 c).After-packed_bytes, c.requires.packed.bytes)
 
-pub slice_bounds-add_offsets-end : goal.slice_bounds-add_offsets-end
-slice_bounds-add_offsets-end c = sym (length-take-le _ _ (omega (arith, buffer-size (goal.at.slice_bounds-add_offsets-end c).After-unpack)))
+pub returns-clause-value : goal.returns-clause-value
+returns-clause-value c = omega (arith, counted (goal.at.returns-clause-value c).After-packed_bytes)
 
-pub add_offsets-requires : goal.add_offsets-requires
-add_offsets-requires c = omega (arith, length-take c.block_len-part.result c.unpack.new.out, c.loop-left.invariant.count, c.loop-left.invariant.sums.long)
-
--- the bytes of the part that was unpacked
-counted : (c : After-packed_bytes-at)
-    → c.packed_bytes-at.result ≡ packed_len c.block_len-part.result (get_or c.args.chunk.now c.args.start 0)
-counted c =
-    c.packed_bytes-at.ensures ∙ packed-counted _ _ (omega (arith, c.block_len-part.ensures)) c.requires.start_bound
-
-pub overflow_add-at-in-loop-left : goal.overflow_add-at-in-loop-left
-overflow_add-at-in-loop-left c = omega (arith, counted (goal.at.overflow_add-at-in-loop-left c).After-packed_bytes-at, part-there c.args.chunk.now _ _ _ c.args.n c.args.from c.loop-left.at c.loop-left.last c.loop-left.left c.loop-left.invariant c.block_len-part.ensures c.requires.start_in_bounds)
-
-pub loop-left-preserved : goal.loop-left-preserved
-loop-left-preserved c =
-    let s = c.args.chunk.now in
-    let bytes = all-by s 0 λ i _. (c.type_inv.chunk i).fits in
-    parts_more s _ _ _ c.args.n c.args.from c.loop-left.at c.loop-left.last c.loop-left.left c.loop-left.invariant c.block_len-part.result c.block_len-part.ensures (counted (goal.at.loop-left-preserved c).After-packed_bytes-at) bytes
-    c.requires.start_bound c.requires.start_in_bounds c.requires.n_in_bounds (rw (part-rest c.loop-left.at s) at c.unpack.ensures.1) (buffer-size (goal.at.loop-left-preserved c).After-unpack) c.add_offsets.ensures
-
-pub returns : goal.returns
-returns c =
-    let low = held c.args.least c.ranges.least.sfits in
-    record { value = parts-end c.args.chunk.now _ _ _ c.args.n c.args.from c.loop-left.at c.loop-left.last c.loop-left.left c.loop-left.invariant (omega arith); column_after = rw low at (parts-done c.args.chunk.now _ _ _ c.args.n c.args.from c.loop-left.at c.loop-left.last c.loop-left.left c.loop-left.invariant (omega arith)) }
+pub returns-clause-column_after : goal.returns-clause-column_after
+unfolding summed running
+returns-clause-column_after c =
+    let a = c.args in
+    let w = get_or a.chunk.now a.start 0 in
+    let key : Key (get_or a.column.now a.from (pos 0)) = search rules in
+    let offsets = packed_values a.chunk.now (a.start + 1) w a.n in
+    let sums = prefix_sums (get_or a.column.now a.from (pos 0)) (from_least a.least offsets) in
+    let room : a.from + 1 + length sums ≤ length a.column.now
+    = omega (arith, length-prefix_sums (get_or a.column.now a.from (pos 0)) (from_least a.least offsets), length-packed_deltas a.least a.chunk.now (a.start + 1) w a.n, c.requires.n_in_bounds) in
+    part-filled a.column.now sums (a.from + 1) room (rw (held (get_or a.column.now a.from (pos 0)) key, held a.least c.ranges.least.sfits) at c.fill_by.ensures)

@@ -1,4 +1,4 @@
--- `settling::settle_blocks` meets its contract: what is left to be asked is the whole; a block that is there takes it on, and a refused one ends it.
+-- What is left to be asked is the whole.
 use mathlib.Core.Path.{◌≡◌}
 use Prim.Native.Nat.{◌≤◌}
 use Rattle.format.specs.Delta.{block_count, validate_blocks}
@@ -6,7 +6,8 @@ use Rattle.delta.proofs.settling.settle_blocks.Given as goal
 
 abbrev pub invariant-loop-left : goal.invariant-loop-left
 invariant-loop-left l = (l.left ≤ l.deltas)
-    × (validate_blocks l.chunk l.size l.at (block_count l.size l.left) l.left l.padded ≡ validate_blocks l.chunk l.size l.from (block_count l.size l.deltas) l.deltas l.initial.padded)
+    × (validate_blocks l.chunk l.size l.read.end (block_count l.size l.left) l.left l.read.padded
+    ≡ validate_blocks l.chunk l.size l.fn.before.end (block_count l.size l.deltas) l.deltas l.fn.before.padded)
 
 abbrev pub decreases-loop-left : goal.decreases-loop-left
 decreases-loop-left l = l.left

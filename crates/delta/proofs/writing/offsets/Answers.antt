@@ -2,24 +2,21 @@
 use mathlib.Core.Path.{ap, ◌∙◌}
 use mir.Syntax.{w64}
 use mir.Val.{to_z, of_z}
-use borrow.Author.Rules.{rules}
+use native.Mathlib.Omega.{arith}
 use Rattle.format.specs.Keys.{gap}
-use Rattle.format.proofs.Numbers.Stores.{storing-none, storing-done}
+use Rattle.format.proofs.Numbers.Stores.{storing-done}
 use Rattle.number.proofs.Signed.{held}
 use Rattle.delta.proofs.Bounding.{offset-more, offset-none}
 use Rattle.delta.proofs.writing.offsets.Goals as goal
-
-pub loop-i-init : goal.loop-i-init
-loop-i-init c = (storing-none, search rules)
 
 pub loop-i-preserved : goal.loop-i-preserved
 loop-i-preserved c =
     let l = c.loop-i in
     let a = c.args in
     let v = c.gap.ensures ∙ ap (gap (to_z w64 (of_z w64 a.low))) (held _ c.delta_at.type_inv ∙ c.delta_at.ensures) in
-    (offset-more a.window.now _ l.i l.invariant.0 (search rules) v, search rules)
+    (offset-more a.window.now _ l.i l.invariant.0 (omega arith) v, omega arith)
 
 pub returns : goal.returns
 returns c =
-    let none = offset-none c.args.window.now _ c.loop-i.i c.loop-i-test.false in
+    let none = offset-none c.args.window.now _ c.loop-i.i (omega arith) in
     rw (held c.args.low c.ranges.low.sfits) at (storing-done c.loop-i.invariant.0 none)

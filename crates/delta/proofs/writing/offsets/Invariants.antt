@@ -1,6 +1,6 @@
 -- `writing::offsets` meets its contract: what is left of the offsets, stored where it stands, is the whole.
 use mathlib.Core.List.{map}
-use Prim.Native.Nat.{◌-◌, ◌≤◌}
+use Prim.Native.Nat.{◌<◌}
 use lib.ListN.{length, drop}
 use Rattle.format.specs.Keys.{gap}
 use Rattle.format.specs.Folds.{deltas}
@@ -8,7 +8,4 @@ use Rattle.format.proofs.Numbers.Stores.{Storing}
 use Rattle.delta.proofs.writing.offsets.Given as goal
 
 abbrev pub invariant-loop-i : goal.invariant-loop-i
-invariant-loop-i l = Storing (map (gap l.low) (deltas l.window)) l.initial.block 0 (map (gap l.low) (drop l.i (deltas l.window))) l.block l.i × (l.i ≤ length l.window)
-
-abbrev pub decreases-loop-i : goal.decreases-loop-i
-decreases-loop-i l = length l.window - l.i
+invariant-loop-i l = Storing (map (gap l.low) (deltas l.window)) l.initial.block 0 (map (gap l.low) (drop l.i (deltas l.window))) l.block l.i × (l.i < length l.window)

@@ -6,11 +6,11 @@ use lib.ListN.{length}
 use borrow.Author.Rules.{rules}
 use mir.Facts.{to_z-of_z}
 use Rattle.format.specs.Dictionary.{code_of}
-use Rattle.distinct.proofs.Searching.{searched-code}
+use Rattle.distinct.proofs.Searching.{searched_code}
 use Rattle.distinct.proofs.Slots.{slot_lt}
 use Rattle.distinct.proofs.Standing.{stands-code}
-use Rattle.dictionary.proofs.guess.rank.Goals as goal
 use Rattle.dictionary.proofs.guess.rank.Goals.{After-slot_of-slot}
+use Rattle.dictionary.proofs.guess.rank.Goals as goal
 
 -- the slot is there
 there : (c : After-slot_of-slot) → c.slot_of-slot.result < length c.args.guesses.now
@@ -20,7 +20,7 @@ pub returns-then-stands : goal.returns-then-stands
 returns-then-stands c = stands-code c.args.values.now _ _ c.stands.ensures c.if-stands.true c.requires.1 ∙ ap (code_of _) (to_z-of_z c.ranges.key)
 
 pub returns : goal.returns
-returns c = c.search-place.ensures ∙ searched-code c.args.values.now _ c.requires.1 (search rules) ∙ ap (code_of _) (to_z-of_z c.ranges.key)
+returns c = c.search-place.ensures ∙ searched_code c.args.values.now _ c.requires.1 (search rules) ∙ ap (code_of _) (to_z-of_z c.ranges.key)
 
 pub offset_bounds-guesses-slot : goal.offset_bounds-guesses-slot
 offset_bounds-guesses-slot c = omega (arith, there (goal.at.offset_bounds-guesses-slot c).After-slot_of-slot)

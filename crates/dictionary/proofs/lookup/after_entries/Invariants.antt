@@ -6,6 +6,3 @@ use Rattle.dictionary.proofs.lookup.after_entries.Given as goal
 
 abbrev pub invariant-loop-i : goal.invariant-loop-i
 invariant-loop-i l = after_uvarints l.chunk l.at (l.n - l.i) ≡ after_uvarints l.chunk l.from l.n
-
-abbrev pub decreases-loop-i : goal.decreases-loop-i
-decreases-loop-i l = l.n - l.i

@@ -1,16 +1,12 @@
--- The two cases of the definition. Any bits are a key, and added to a key they add as the number does, modulo 2^64.
+-- After the first entry: any bits are a key, and added to a key they add as the number does, modulo 2^64.
 use mir.Syntax.{w64}
 use mathlib.Core.Path.{ap₂, ◌∙◌}
 use mir.Facts.{to_z-of_z}
-use borrow.Author.Tests.{eq-eqb, ne_eqb}
+use borrow.Author.Tests.{ne_eqb}
 use Rattle.format.specs.Keys.{wrapping_add}
 use Rattle.dictionary.specs.Reading.{entry_at}
-use Rattle.dictionary.proofs.ReadEntries.{wrapping-bits}
+use Rattle.dictionary.proofs.ReadEntries.{wrapping_bits}
 use Rattle.dictionary.proofs.lookup.entry_at.Goals as goal
-
-pub returns-then-i-eq0 : goal.returns-then-i-eq0
-unfolding entry_at
-returns-then-i-eq0 c = rw (eq-eqb _ _ c.if-i-eq0.true) (to_z-of_z {w = w64} (record { sfits = c.zigzag_decode.type_inv }) ∙ c.zigzag_decode.ensures)
 
 pub returns : goal.returns
 unfolding entry_at
@@ -20,4 +16,4 @@ returns c =
     (to_z-of_z {w = w64} (record { sfits = c.wrapping_add.type_inv })
     ∙ c.wrapping_add.ensures
     ∙ ap₂ wrapping_add (to_z-of_z c.ranges.last) gap
-    ∙ wrapping-bits c.args.last c.args.value c.ranges.value.fits)
+    ∙ wrapping_bits c.args.last c.args.value c.ranges.value.fits)

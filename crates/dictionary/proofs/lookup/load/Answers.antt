@@ -10,7 +10,7 @@ use mir.Facts.{to_z-of_z}
 use Rattle.format.specs.Varint.{uvarint_values}
 use Rattle.varint.specs.declared.find.Found.{Found}
 use Rattle.dictionary.specs.Reading.{entry_at, entries_at}
-use Rattle.dictionary.proofs.ReadEntries.{after-step, after-end, load_step, load-done, length-entries, length-values}
+use Rattle.dictionary.proofs.ReadEntries.{after_step, after_end, load_step, load-done, length-entries, length-values}
 use Rattle.dictionary.proofs.lookup.load.Goals as goal
 
 pub loop-i-preserved : goal.loop-i-preserved
@@ -21,7 +21,7 @@ loop-i-preserved c =
     let back : to_z w64 (of_z w64 c.entry_at-last.result) ≡ c.entry_at-last.result = to_z-of_z {w = w64} (record { sfits = c.entry_at-last.type_inv }) in
     let under : l.i < length c.args.table.now = omega (arith, c.loop-i-test.true, l.invariant.1.long) in
     rw (gap, back)
-    (after-step c.args.chunk.now l.at under ∙ l.invariant.0, load_step _ _ _ _ _ _ under l.invariant.1 entry)
+    (after_step c.args.chunk.now l.at under ∙ l.invariant.0, load_step _ _ _ _ _ _ under l.invariant.1 entry)
 
 pub returns : goal.returns
 returns c =
@@ -30,7 +30,7 @@ returns c =
     let n = length c.args.table.now in
     let over : n ≤ l.i = omega (arith, c.loop-i-test.false, l.invariant.1.long) in
     let whole = uvarint_values chunk c.args.from n in record {
-      value = sym (after-end chunk l.at over) ∙ l.invariant.0;
+      value = sym (after_end chunk l.at over) ∙ l.invariant.0;
       table_after = load-done chunk l.at n l.i c.args.done _ over refl
           (length-entries c.args.done _ whole ∙ length-values chunk c.args.from n) l.invariant.1
           ∙ ap (λ (b : ℤ). entries_at c.args.done b whole) (to_z-of_z c.ranges.before);

@@ -11,6 +11,3 @@ abbrev pub invariant-loop-i : goal.invariant-loop-i
 invariant-loop-i l = (after_uvarints l.chunk l.at (length l.initial.table - l.i) ≡ after_uvarints l.chunk l.from (length l.initial.table))
     × Storing (entries_at l.done l.before (uvarint_values l.chunk l.from (length l.initial.table))) l.initial.table 0
     (entries_at (l.done + l.i) l.last (uvarint_values l.chunk l.at (length l.initial.table - l.i))) l.table l.i
-
-abbrev pub decreases-loop-i : goal.decreases-loop-i
-decreases-loop-i l = length l.initial.table - l.i

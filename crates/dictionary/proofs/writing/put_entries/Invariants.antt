@@ -1,11 +1,6 @@
 -- Each turn stores the gap to the next entry (`Putting`).
-use Prim.Native.Nat.{◌-◌}
-use lib.ListN.{length}
 use Rattle.dictionary.proofs.Entries.{Putting}
 use Rattle.dictionary.proofs.writing.put_entries.Given as goal
 
 abbrev pub invariant-loop-i : goal.invariant-loop-i
 invariant-loop-i l = Putting l.entries l.initial.last l.initial.out l.initial.at l.last l.out l.at l.i
-
-abbrev pub decreases-loop-i : goal.decreases-loop-i
-decreases-loop-i l = length l.entries - l.i

@@ -5,17 +5,17 @@ use Rattle.distinct.proofs.Collecting.{taking-none, taking-asks, taking-more, ta
 use Rattle.distinct.proofs.fill.fill_few.Goals as goal
 
 pub take_in-held-requires : goal.take_in-held-requires
-take_in-held-requires c = taking-asks _ _ c.requires.0 c.requires.1 c.loop-i.invariant c.loop-i-test.true
+take_in-held-requires c = taking-asks _ _ c.requires.0 c.requires.1 c.loop-key.invariant c.loop-key-test.true
 
-pub loop-i-preserved : goal.loop-i-preserved
-loop-i-preserved c =
-    taking-more _ _ c.requires.0 c.requires.1 c.loop-i.invariant c.loop-i-test.true (read_back (search rules)) c.take_in-held.ensures.value
+pub loop-key-preserved : goal.loop-key-preserved
+loop-key-preserved c =
+    taking-more _ _ c.requires.0 c.requires.1 c.loop-key.invariant c.loop-key-test.true (read_back (search rules)) c.take_in-held.ensures.value
     c.take_in-held.ensures.values_after
 
 pub returns : goal.returns
 returns c =
-    let p = taking-done _ _ c.requires.0 c.requires.1 c.loop-i.invariant c.loop-i-test.false in
+    let p = taking-done _ _ c.requires.0 c.requires.1 c.loop-key.invariant c.loop-key-test.false in
     record { value = p.0; scratch_after = p.1 }
 
-pub loop-i-init : goal.loop-i-init
-loop-i-init c = taking-none _ _
+pub loop-key-init : goal.loop-key-init
+loop-key-init c = taking-none _ _

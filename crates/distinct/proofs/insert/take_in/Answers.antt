@@ -8,7 +8,7 @@ use mir.Facts.{to_z-of_z}
 use Rattle.format.specs.Dictionary.{code_of}
 use Rattle.distinct.specs.Search.{searched}
 use Rattle.distinct.proofs.Codes.{code-le}
-use Rattle.distinct.proofs.Searching.{searched-code}
+use Rattle.distinct.proofs.Searching.{searched_code}
 use Rattle.distinct.proofs.Inserting.{taken-known, taken-full, taken-new}
 use Rattle.distinct.proofs.insert.take_in.Goals as goal
 use Rattle.distinct.proofs.insert.take_in.Goals.{After-search-at, Start}
@@ -22,7 +22,7 @@ found : (c : After-search-at) → let a = c.args in c.search-at.result ≡ code_
 found c =
     c.search-at.ensures
     ∙ ap (searched _) (to_z-of_z c.ranges.key)
-    ∙ searched-code _ _ c.requires.2 (omega (arith, front (goal.at.After-search-at c).Start))
+    ∙ searched_code _ _ c.requires.2 (omega (arith, front (goal.at.After-search-at c).Start))
 
 pub returns-then-stands : goal.returns-then-stands
 returns-then-stands c =

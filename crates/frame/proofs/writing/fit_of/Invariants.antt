@@ -2,5 +2,5 @@
 use Rattle.frame.proofs.Bounds.{Bounded}
 use Rattle.frame.proofs.writing.fit_of.Given as goal
 
-abbrev pub invariant-loop-i : goal.invariant-loop-i
-invariant-loop-i l = Bounded l.column l.least l.greatest l.i
+abbrev pub invariant-loop-value : goal.invariant-loop-value
+invariant-loop-value l = Bounded l.column l.least l.greatest l.value-index

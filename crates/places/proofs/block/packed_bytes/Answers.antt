@@ -7,4 +7,4 @@ pub returns-in_default : goal.returns-in_default
 returns-in_default c = ap count_of c.in_default.ensures
 
 pub returns : goal.returns
-returns c = ap count_of c.in-Accepted.ensures
+returns c = ap count_of c.in-Ok.ensures

@@ -1,7 +1,8 @@
--- `runs::reading::settle_runs` meets its contract: what is left to be asked is the whole. A varint that is refused and a length above what is left decide; a run that is
--- read takes the walk one on.
-use Rattle.runs.proofs.Asks.{Asking}
+-- What is left to be asked is the whole.
+use mathlib.Core.Path.{◌≡◌}
+use Prim.Native.Nat.{◌-◌}
+use Rattle.format.specs.Runs.{validate_runs}
 use Rattle.runs.proofs.reading.settle_runs.Given as goal
 
 abbrev pub invariant-loop : goal.invariant-loop
-invariant-loop l = Asking l.chunk l.from l.n l.count l.initial.padded l.at l.counter l.done l.padded
+invariant-loop l = validate_runs l.chunk l.at (l.n - l.counter) l.left l.padded ≡ validate_runs l.chunk l.from l.n l.count l.initial.padded

@@ -1,11 +1,12 @@
--- `runs::writing::runs_len` meets its contract: what was measured and what is still to come are the whole, and by the limits no sum wraps.
-use Prim.Native.Nat.{◌-◌}
-use lib.ListN.{length}
-use Rattle.runs.proofs.Measures.{Measuring}
+-- The bytes of the runs measured, then those of the runs that are left, are the runs'.
+use mathlib.Core.Path.{◌≡◌}
+use Prim.Native.Nat.{◌+◌, ◌-◌}
+use lib.ListN.{length, drop}
+use Rattle.format.specs.Runs.{runs, run_bytes}
 use Rattle.runs.proofs.writing.runs_len.Given as goal
 
 abbrev pub invariant-loop-start : goal.invariant-loop-start
-invariant-loop-start l = Measuring l.column l.start l.bytes
+invariant-loop-start l = l.bytes + length (run_bytes (runs (drop l.start l.column))) ≡ length (run_bytes (runs l.column))
 
 abbrev pub decreases-loop-start : goal.decreases-loop-start
 decreases-loop-start l = length l.column - l.start

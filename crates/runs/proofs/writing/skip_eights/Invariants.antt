@@ -1,4 +1,4 @@
--- `runs::writing::skip_eights` meets its contract: eight values that are the same take the walk eight on.
+-- Eight values that are the same take the walk eight on.
 use Prim.Native.Nat.{◌-◌}
 use lib.ListN.{length}
 use Rattle.runs.specs.RunAt.{Running}

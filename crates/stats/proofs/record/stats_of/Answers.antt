@@ -1,16 +1,20 @@
 -- `record::stats_of` meets its contract, field by field: what the pass gives, and what the calls make of it.
-use mathlib.Core.Path.{◌∙◌}
+use mathlib.Core.Path.{◌≡◌, ◌∙◌}
 use lib.IntN.{pos}
 use lib.ListN.{get_or}
 use borrow.Author.Rules.{rules}
 use Rattle.format.specs.Keys.{gap}
+use Rattle.format.specs.Statistics.{refused_stats}
 use Rattle.number.proofs.Signed.{held}
 use Rattle.stats.proofs.Fields.{result-of}
 use Rattle.stats.proofs.Recording.{stats-none, stats-made}
 use Rattle.stats.proofs.record.stats_of.Goals as goal
 
 pub returns-then-column-eq0 : goal.returns-then-column-eq0
-returns-then-column-eq0 c = c.refused_stats.ensures ∙ stats-none _ c.if-column-eq0.true
+unfolding refused_stats
+returns-then-column-eq0 c =
+    let empty : c.default.result ≡ refused_stats = search rules in
+    empty ∙ stats-none _ c.if-column-eq0.true
 
 pub returns : goal.returns
 returns c =

@@ -1,28 +1,18 @@
 -- `varint::find::find_uvarint` meets its contract: where ten bytes are there, `Reading` holds of the first k before turn k; elsewhere the varint is read.
-use Rattle.std.proofs.Common.{◌≡◌, ℕ, ◌+◌, ◌*◌, ◌%◌, get_or, sym, ap, ◌∙◌, arith}
-use Rattle.varint.proofs.Reading.{summed, begin, again, answer-one, answer-last}
+use Rattle.std.proofs.Common.{◌≡◌, ◌+◌, ◌*◌, sym, arith}
+use Rattle.varint.proofs.Reading.{begin, again, answer-one, answer-last}
 use Rattle.varint.proofs.Finding.{found-read}
 use Rattle.varint.proofs.find.find_uvarint.Goals as goal
-use Rattle.varint.proofs.find.find_uvarint.Goals.{After-wrapping_add_u64-value}
 
 pub returns-then-first-lt128 : goal.returns-then-first-lt128
-returns-then-first-lt128 c = rw c.wide.ensures.0 (found-read _ _ (sym (answer-one _ _ (omega arith) c.if-first-lt128.true)))
+returns-then-first-lt128 c = rw c.from.ensures (found-read _ _ (sym (answer-one _ _ (omega arith) c.if-first-lt128.true)))
 
 pub loop-k-init : goal.loop-k-init
 loop-k-init c = (omega arith, omega arith, rw c.group-value.ensures (begin _ _ (omega arith) (omega arith)))
 
--- the value with one more group
-added : (c : After-wrapping_add_u64-value) → let l = c.loop-k in
-    let a = c.args in
-    c.wrapping_add_u64-value.result ≡ summed l.value (get_or a.bytes.now (a.at + l.k) 0 % 128) (7 * l.k)
-added c =
-    let l = c.loop-k in
-    c.wrapping_add_u64-value.ensures.value ∙ ap (λ (g : ℕ). summed l.value g (7 * l.k)) c.group.ensures
-
 pub returns-then-b-lt128 : goal.returns-then-b-lt128
 returns-then-b-lt128 c =
-    let l = c.loop-k in
-    rw (added (goal.at.returns-then-b-lt128 c).After-wrapping_add_u64-value) (found-read _ _ (sym (answer-last l.invariant.2 (omega arith) (omega arith) c.if-b-lt128.true)))
+    rw c.group.ensures (found-read _ _ (sym (answer-last c.loop-k.invariant.2 (omega arith) (omega arith) c.if-b-lt128.true)))
 
 pub loop-k-preserved : goal.loop-k-preserved
 loop-k-preserved c =
@@ -30,4 +20,4 @@ loop-k-preserved c =
     let a = c.args in
     let n : a.at + (l.k + 1) ≡ a.at + l.k + 1 = omega arith in
     let w : 7 * (l.k + 1) ≡ 7 * l.k + 7 = omega arith in
-    (omega arith, l.invariant.1, rw (n, w, added (goal.at.loop-k-preserved c).After-wrapping_add_u64-value) (again l.invariant.2 (omega arith) (omega arith) c.if-b-lt128.false))
+    (omega arith, l.invariant.1, rw (n, w, c.group.ensures) (again l.invariant.2 (omega arith) (omega arith) c.if-b-lt128.false))

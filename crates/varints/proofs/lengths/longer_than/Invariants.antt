@@ -5,5 +5,5 @@ use lib.ListN.{length, drop}
 use Rattle.varints.specs.Lengths.{longer}
 use Rattle.varints.proofs.lengths.longer_than.Given as goal
 
-abbrev pub invariant-loop-i : goal.invariant-loop-i
-invariant-loop-i l = (l.i ≤ length l.column) × (l.count ≤ l.i) × (l.count + longer l.shift (drop l.i l.column) ≡ longer l.shift l.column)
+abbrev pub invariant-loop-value : goal.invariant-loop-value
+invariant-loop-value l = (l.value-index ≤ length l.column) × (l.count ≤ l.value-index) × (l.count + longer l.shift (drop l.value-index l.column) ≡ longer l.shift l.column)

@@ -5,5 +5,5 @@ use lib.ListN.{length, get_or}
 use Rattle.format.specs.Keys.{zigzag}
 use Rattle.varints.proofs.lengths.zigzag_bits.Given as goal
 
-abbrev pub invariant-loop-i : goal.invariant-loop-i
-invariant-loop-i l = (l.i ≤ length l.column) × ((k : ℕ) → k < l.i → zigzag (get_or l.column k (pos 0)) ≤ l.bits)
+abbrev pub invariant-loop-value : goal.invariant-loop-value
+invariant-loop-value l = (l.value-index ≤ length l.column) × ((k : ℕ) → k < l.value-index → zigzag (get_or l.column k (pos 0)) ≤ l.bits)

@@ -5,5 +5,5 @@ use lib.ListN.{length, drop}
 use Rattle.varints.specs.Scans.{lasts}
 use Rattle.varints.proofs.scan.last_bytes.Given as goal
 
-abbrev pub invariant-loop-i : goal.invariant-loop-i
-invariant-loop-i l = (l.i ≤ length l.bytes) × (l.count ≤ l.i) × (l.count + lasts (drop l.i l.bytes) ≡ lasts l.bytes)
+abbrev pub invariant-loop-byte : goal.invariant-loop-byte
+invariant-loop-byte l = (l.byte-index ≤ length l.bytes) × (l.count ≤ l.byte-index) × (l.count + lasts (drop l.byte-index l.bytes) ≡ lasts l.bytes)

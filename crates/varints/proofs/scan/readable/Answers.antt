@@ -6,4 +6,4 @@ use Rattle.varints.proofs.scan.readable.Goals as goal
 pub returns : goal.returns
 returns c e =
     let a = c.args in
-    scanned a.chunk.now a.start (c.place-end.result - a.start) a.count (c.rows.ensures e)
+    scanned a.chunk.now a.start (c.min-end.result - a.start) a.count (c.rows.ensures e)

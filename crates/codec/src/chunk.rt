@@ -1,0 +1,107 @@
+// A chunk in any of the encodings: what differs between them is a `Codec`, and writing and reading with it is proved once.
+ghost use Rattle.std.specs.Prelude.{◌≡◌, ℕ, ℤ, List, ◌+◌, ◌^◌, ◌≤◌, ◌<◌, length};
+ghost use Rattle.std.proofs.lemmas.List.Edits.{sets};
+ghost use Rattle.format.specs.Answers.{outcome_of};
+ghost use Rattle.format.specs.Chunk.{body_of, validate_body, body_values};
+ghost use Rattle.format.specs.Encodings.{id_of, max_chunk_elements};
+ghost use Rattle.format.specs.Header.{header_len, named};
+ghost use Rattle.format.specs.Outcome.{Outcome, ok};
+ghost use Rattle.format.specs.Parts.{settled};
+ghost use Rattle.format.specs.Read.{read_answer, read_column};
+ghost use Rattle.format.specs.Write.{for_dictionary, write_answer, write_output};
+ghost use Rattle.format.specs.declared.encoding.Encoding.{Encoding};
+ghost use Rattle.codec.specs.Lacking.{Lacking};
+ghost use Rattle.codec.specs.Valid.{Valid};
+
+use crate::body::settle;
+use crate::header::{header_len, put_header, read_header};
+use format::limits::MAX_CHUNK_ELEMENTS;
+use format::{Encoding, Extent, Header, Kind, Refusal};
+
+// One of the encodings: how a body of it is asked, and how its values are filled in.
+pub trait Codec {
+    ghost ENCODING: { Encoding };
+
+    const ENCODING: Encoding;
+
+    // The body's questions. What only strict reading looks at need not be told to another.
+    fn settle_body(chunk: &[u8], strict: bool, header: Header) -> Result<Extent, Refusal>
+        requires few { header.count ≤ max_chunk_elements }
+        requires within { header.start ≤ length chunk.now }
+        ensures { (room : ℕ) → settled strict chunk.now header.count room (outcome_of result)
+            ≡ settled strict chunk.now header.count room (validate_body ENCODING chunk.now header.start header.count header.padded) };
+
+    // Stores the values of a body that was passed to the front of `column`.
+    fn fill(chunk: &[u8], header: Header, column: &mut [i64])
+        requires passed { Valid ENCODING chunk.now header }
+        requires room { header.count ≤ length column.old }
+        ensures { column.new ≡ sets column.old 0 (body_values ENCODING chunk.now header.start header.count) };
+}
+
+// One of those that are written without a scratch: all but Dictionary.
+pub trait Encoder: Codec {
+    // What writing measures of a column first.
+    type Measured: Copy;
+
+    // What such a measure says of the column.
+    ghost suits: { List ℤ → Self.Measured → Type 0 };
+
+    fn measure(column: &[i64]) -> Self::Measured
+        requires { length column.now ≤ max_chunk_elements }
+        ensures { suits column.now result };
+
+    // The length of the column's chunk, where `space` bytes are too few for it.
+    fn lacking(column: &[i64], measured: Self::Measured, space: usize) -> Option<usize>
+        requires few { length column.now ≤ max_chunk_elements }
+        requires measured { suits column.now measured }
+        ensures { Lacking (header_len (length column.now) + length (body_of Self.ENCODING column.now)) space result };
+
+    // Stores the body of a column from `at` on, and answers the place after it.
+    fn store(column: &[i64], measured: Self::Measured, out: &mut [u8], at: usize) -> usize
+        requires few { length column.now ≤ max_chunk_elements }
+        requires measured { suits column.now measured }
+        requires room { at + length (body_of Self.ENCODING column.now) ≤ length out.old }
+        ensures value { result ≡ at + length (body_of Self.ENCODING column.now) }
+        ensures out_after { out.new ≡ sets out.old at (body_of Self.ENCODING column.now) };
+
+    ghost scratchless: { (k : Outcome (Unit {0})) → for_dictionary (ok tt) k Self.ENCODING ≡ ok tt };
+}
+
+// The length of a chunk of `count` values whose body has `body` bytes, where `space` is too few for it.
+pub fn lacking_for(count: usize, body: usize, space: usize) -> Option<usize>
+    requires few { count ≤ max_chunk_elements }
+    requires short { body < 2 ^ 32 }
+    ensures { Lacking (header_len count + body) space result }
+{
+    let needed = header_len(count) + body;
+    (needed > space).then_some(needed)
+}
+
+// Writes a column as a chunk to the front of `out`.
+pub fn encode_as<C: Encoder>(column: &[i64], out: &mut [u8]) -> Result<usize, Refusal>
+    ensures value { (room : ℕ) → outcome_of result ≡ write_answer (id_of C.ENCODING) column.now room (length out.old) }
+    ensures out_after { (room : ℕ) → out.new ≡ write_output (id_of C.ENCODING) column.now room out.old }
+{
+    if column.len() > MAX_CHUNK_ELEMENTS {
+        return Err(Kind::ColumnAboveLimit.at(0));
+    }
+    let measured = C::measure(column);
+    if let Some(needed) = C::lacking(column, measured, out.len()) {
+        return Err(Kind::BufferTooShort.at(needed));
+    }
+    let at = put_header(C::ENCODING, column.len(), out);
+    Ok(C::store(column, measured, out, at))
+}
+
+// Reads a chunk into the front of `column`.
+#[tactic(auto, using(crate::proofs::Reading::answer_steps, crate::proofs::Reading::column_steps))]
+pub fn decode_as<C: Codec>(chunk: &[u8], strict: bool, column: &mut [i64]) -> Result<usize, Refusal>
+    ensures value { outcome_of result ≡ read_answer strict (named (id_of C.ENCODING)) chunk.now (length column.old) }
+    ensures column_after { column.new ≡ read_column strict (named (id_of C.ENCODING)) chunk.now column.old }
+{
+    let header = read_header(chunk, C::ENCODING.id() as u32)?;
+    let body = C::settle_body(chunk, strict, header)?;
+    let count = settle(chunk, strict, header.count, column.len(), body)?;
+    C::fill(chunk, header, column);
+    Ok(count)
+}

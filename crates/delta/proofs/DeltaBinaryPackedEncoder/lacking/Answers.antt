@@ -1,0 +1,12 @@
+-- The body has at most nine bytes a value, and few more.
+use native.Mathlib.Omega.{arith}
+use Rattle.format.specs.Chunk.{body_of}
+use Rattle.delta.proofs.Measured.{body-limit}
+use Rattle.delta.proofs.DeltaBinaryPackedEncoder.lacking.Goals as goal
+
+pub lacking_for-requires-clause-short : goal.lacking_for-requires-clause-short
+lacking_for-requires-clause-short c = omega (arith, c.requires.measured, c.requires.few, body-limit c.args.column.now)
+
+pub returns : goal.returns
+unfolding body_of
+returns c = rw c.requires.measured at c.lacking_for.ensures

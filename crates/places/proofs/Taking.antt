@@ -1,0 +1,46 @@
+-- The next block of a packed body: its bytes are there, and its values and those of the rest are all that were left.
+use mathlib.Core.Path.{◌≡◌, sym, ap, ap₂, ◌∙◌}
+use mathlib.Core.List.{List, [], ◌++◌}
+use Prim.Native.Nat.{ℕ, ◌+◌, ◌-◌, ◌≤◌, min}
+use native.Mathlib.Omega.{arith}
+use lib.ListN.{length, take, drop, length-drop}
+use Rattle.format.specs.Answers.{count_of}
+use Rattle.format.specs.Digits.{digits}
+use Rattle.format.specs.Encodings.{max_chunk_elements}
+use Rattle.format.specs.Packing.{packed_len, unpacked, packed_values}
+use Rattle.format.specs.Standalone.{packed_len_answer, unpack_buffer}
+use Rattle.format.proofs.Numbers.All.{Below}
+use Rattle.format.proofs.Numbers.Packing.{packed_len-split}
+use Rattle.bitpack.proofs.Blocks.{values-block, unpack-front}
+use Rattle.bitpack.proofs.Parts.{part-rest}
+use Rattle.places.proofs.Blocks.{packed-counted}
+
+-- where nothing is left
+pub none_left : (s : List ℕ) (at w : ℕ) {left : ℕ} → left ≡ 0 → packed_values s at w left ≡ []
+unfolding packed_values unpacked digits
+none_left s at w e = rw e
+
+module _ (s : List ℕ) (at w left : ℕ) {n bytes : ℕ} (e : n ≡ min left 128) (counted : bytes ≡ count_of (packed_len_answer n w))
+    (few : left ≤ max_chunk_elements) (narrow : w ≤ 64) (there : at + packed_len left w ≤ length s)
+  where
+    bytes_of : bytes ≡ packed_len n w
+    bytes_of = counted ∙ packed-counted n w (omega arith) narrow
+
+    parted : packed_len n w + packed_len (left - n) w ≡ packed_len left w
+    parted =
+        let a : n ≡ min 128 left = omega arith in
+        let b : left - n ≡ left - 128 = omega arith in
+        ap₂ (λ (i j : ℕ). packed_len i w + packed_len j w) a b ∙ packed_len-split left w
+
+    pub rest-there : at + bytes + packed_len (left - n) w ≤ length s
+    rest-there = omega (arith, bytes_of, parted, there)
+
+    -- as it is unpacked to a block
+    pub block-taken : Below 256 s → (block : List ℕ) → length block ≡ 128 → {back : List ℕ} → back ≡ unpack_buffer (take (length s - at) (drop at s)) w n block
+        → packed_values s at w left ≡ take n back ++ packed_values s (at + bytes) w (left - n)
+    unfolding packed_values
+    block-taken h block hb {back} eb =
+        let room : packed_len n w ≤ length (drop at s) = omega (arith, parted, there, length-drop at s) in
+        let front : take n back ≡ packed_values s at w n
+        = ap (take n) (eb ∙ ap (λ (r : List ℕ). unpack_buffer r w n block) (part-rest at s)) ∙ unpack-front w n (drop at s) block narrow (omega arith) room (omega arith) in
+        rw (← e, ← bytes_of) at (values-block w s at left h) ∙ ap (λ (l : List ℕ). l ++ packed_values s (at + bytes) w (left - n)) (sym front)

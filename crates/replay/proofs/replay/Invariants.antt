@@ -1,0 +1,5 @@
+use Rattle.std.proofs.Common.{length}
+use Rattle.replay.proofs.replay.Given as goal
+
+abbrev pub decreases-loop-kind : goal.decreases-loop-kind
+decreases-loop-kind g l = length l.rest
