@@ -3,8 +3,8 @@
 use mathlib.Core.Path.{◌≡◌, refl, sym, ap, ap₂, ◌∙◌}
 use Prim.Native.Nat.{ℕ, ◌+◌, ◌*◌, ◌/◌, ◌%◌, ◌^◌, ◌≤◌, ◌<◌}
 use native.Mathlib.Omega.{arith}
-use mathlib.Core.List.{List, [], ◌∷◌, ◌++◌}
-use lib.ListN.{length, set, take, drop, length-set}
+use mathlib.Core.List.{List, [], ◌∷◌, ◌++◌, append-nil}
+use lib.ListN.{length, set, take, drop, length-set, drop_of_length-le}
 use Rattle.format.specs.Digits.{of_digits, digits}
 use Rattle.format.specs.Packing.{unpacked}
 use Rattle.format.proofs.Codecs.Counts.{length-unpacked}
@@ -14,7 +14,7 @@ use Rattle.format.proofs.Numbers.Digits.{of_digits-lt}
 use Rattle.format.proofs.Numbers.Places.{pow-pow, digits-add, of_digits-drop, of_digits-take}
 use native.Mathlib.Decide.{dec_le}
 use native.Mathlib.Nat.{mod-eq_of_lt, pow-le-pow_right, zero-lt-suc}
-use lib.Seq.{take_all}
+use lib.Seq.{take_all, length-take-le}
 use Rattle.bitpack.proofs.Stores.{fill_step, front-past}
 
 pub record Filled (w : ℕ) (s out₀ out : List ℕ) (i : ℕ) : Type 0 where
@@ -49,6 +49,14 @@ module _ {w : ℕ} {s : List ℕ} where
           same = g.same ∙ f.same;
           front = g.front ∙ ap (λ (l : List ℕ). unpacked w n s ++ l) (front-past (unpacked w i s) out₀ i (length-unpacked w i s) f.front n h);
         }
+
+-- a first part of k values, when all of them are stored
+pub front_filled : (out₀ : List ℕ) {w : ℕ} {s out : List ℕ} {k i : ℕ} → Filled w s (take k out₀) out i → k ≤ length out₀ → i ≡ k → out ≡ unpacked w k s
+front_filled out₀ {w} {s} {out} {k} f room e =
+    let all : Filled w s (take k out₀) out k = rw e at f in
+    all.front
+    ∙ ap (λ (l : List ℕ). unpacked w k s ++ l) (drop_of_length-le (take k out₀) (omega (arith, length-take-le k out₀ room)))
+    ∙ append-nil (unpacked w k s)
 
 -- ---- the word of value i, where k values have theirs inside
 

@@ -44,9 +44,9 @@ fn unpack_words(s: &[u8], w: usize, m: u64, k: usize, out: &mut [u64])
     requires { (m ≡ 2 ^ w - 1) × (k ≤ length out.old) × (k ≤ max_chunk_elements) × Within (length s.now) w k k }
     ensures { out.new ≡ unpacked w k s.now ++ drop k out.old }
 {
-    for i in 0..k {
+    for (i, value) in out[..k].iter_mut().enumerate() {
         let bit = i * w;
-        out[i] = (load(s, bit / 8) >> (bit % 8)) & m;
+        *value = (load(s, bit / 8) >> (bit % 8)) & m;
     }
 }
 

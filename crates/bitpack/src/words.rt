@@ -17,8 +17,8 @@ pub(crate) fn put_bytes(out: &mut [u8], p: usize, x: u64, t: usize)
     ensures { out.new ≡ sets out.old p (digits 256 t x) }
 {
     let mut rest = x;
-    for j in 0..t {
-        out[p + j] = (rest % 256) as u8;
+    for byte in &mut out[p..p + t] {
+        *byte = (rest % 256) as u8;
         rest /= 256;
     }
 }

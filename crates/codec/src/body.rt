@@ -1,6 +1,5 @@
 // Questions that more than one body is asked, and those that come after the body's.
 ghost use Rattle.std.specs.Prelude.{◌≡◌, ◌≤◌, IfOk};
-ghost use Rattle.format.specs.Outcome.{ok};
 ghost use Rattle.format.specs.Answers.{outcome_of};
 ghost use Rattle.format.specs.Varint.{first_padded, validate_uvarints};
 ghost use Rattle.format.specs.Parts.{packed_extent, settled};
@@ -65,19 +64,20 @@ pub fn settle_packed(
     })
 }
 
-// The answer to reading, once the body is read: strict reading asks for padded varints and for bytes after the body, and any
-// reading whether the column's buffer is long enough.
+// The answer to reading, by what its body answered: of one that was passed strict reading asks for padded varints and for bytes after
+// it, and any reading whether the column's buffer is long enough.
 #[tactic(auto, unfolding(format::specs::Parts::settled, format::specs::Read::strict_checks))]
 pub fn settle(
     chunk: &[u8],
     strict: bool,
     count: usize,
     room: usize,
-    body: Extent,
+    body: Result<Extent, Refusal>,
 ) -> Result<usize, Refusal>
-    ensures told { outcome_of result ≡ settled strict chunk.now count room (ok body) }
+    ensures told { outcome_of result ≡ settled strict chunk.now count room (outcome_of body) }
     ensures counted { IfOk result (λ n. (n ≡ count) × (count ≤ room)) }
 {
+    let body = body?;
     if strict {
         if let Some(start) = body.padded {
             return Err(Kind::VarintPadded.at(start));

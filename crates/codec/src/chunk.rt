@@ -101,7 +101,7 @@ pub fn decode_as<C: Codec>(chunk: &[u8], strict: bool, column: &mut [i64]) -> Re
 {
     let header = read_header(chunk, C::ENCODING.id() as u32)?;
     let body = C::settle_body(chunk, strict, header)?;
-    let count = settle(chunk, strict, header.count, column.len(), body)?;
+    let count = settle(chunk, strict, header.count, column.len(), Ok(body))?;
     C::fill(chunk, header, column);
     Ok(count)
 }

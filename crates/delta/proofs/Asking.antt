@@ -1,5 +1,5 @@
 -- The lists of questions, one step on: blocks are asked about the next one and then the rest, and a body about its first value, its block size and its blocks.
-use mathlib.Core.Path.{◌≡◌, refl, ap, ◌∙◌}
+use mathlib.Core.Path.{◌≡◌, refl, sym, ap, ◌∙◌}
 use mathlib.Core.List.{List}
 use Prim.Native.Nat.{ℕ, suc, ◌-◌, ◌^◌, ◌≤◌, ◌<◌, min}
 use native.Mathlib.Omega.{arith}
@@ -10,6 +10,7 @@ use Rattle.format.specs.Varint.{read_uvarint, first_padded}
 use Rattle.format.specs.Encodings.{max_chunk_elements, within}
 use Rattle.format.specs.Delta.{block_count, validate_blocks, validate_delta}
 use Rattle.format.specs.Parts.{packed_extent}
+use Rattle.format.specs.declared.Extent.{Extent}
 use Rattle.delta.specs.There.{block_extent}
 use Rattle.delta.proofs.There.{block_count-more, block_count-none}
 
@@ -27,6 +28,14 @@ unfolding validate_blocks block_extent packed_extent
 block_next s size at left deltas padded some within few more =
     ap (λ (k : ℕ). validate_blocks s size at k left padded) (block_count-more size left some more)
     ∙ rw (le-leb (min left size) max_chunk_elements (omega arith)) (simp in_a_row)
+
+-- the same, of a block that was read: `later` deltas are left after it
+pub block_read :
+    (s : List ℕ) (size at left deltas : ℕ) (padded : Option ℕ) → 1 ≤ size → left ≤ deltas → deltas ≤ max_chunk_elements → 0 < left → (n later : ℕ) → n ≡ min left size → later ≡ left - n
+    → {read : Extent} → ok read ≡ block_extent s at n padded
+    → validate_blocks s size read.end (block_count size later) later read.padded ≡ validate_blocks s size at (block_count size left) left padded
+block_read s size at left deltas padded some within few more n later e l r =
+    sym (block_next s size at left deltas padded some within few more ∙ rw (← e, ← r, ← l))
 
 -- no block is left
 pub block_end :

@@ -71,13 +71,6 @@ pub block-length : (column : List ℤ) → length (block_bytes (deltas column))
 unfolding block_len
 block-length column = length-block (deltas column) (deltas-keys column) ∙ omega arith
 
--- what the next window adds to those before it
-pub total-more : (rest : List ℤ) (n total all : ℕ) {size : ℕ} → total + length (blocks_of (deltas rest)) ≡ all
-    → 1 < length rest → n ≡ min (length rest - 1) 128 → size ≡ length (block_bytes (deltas (take (n + 1) rest)))
-    → total + size + length (blocks_of (deltas (drop n rest))) ≡ all
-total-more rest n total all begun more e measured =
-    omega (arith, begun, measured, ap length (next-window rest n more e), length-append (block_bytes (deltas (take (n + 1) rest))) (blocks_of (deltas (drop n rest))))
-
 -- at most 11 bytes beside eight for a delta
 block-most : (ds : List ℤ) → block_len ds ≤ 11 + 8 * length ds
 unfolding block_len

@@ -42,17 +42,13 @@ fn fill_blocks(chunk: &[u8], size: usize, from: usize, deltas: usize, column: &m
     ensures { column.new ≡ summed column.old 0 (block_deltas chunk.now size from (block_count size deltas) deltas) }
 {
     let mut at = from;
-    let mut last: usize = 0;
-    let mut left = deltas;
-    while left > 0 {
-        let n = left.min(size);
+    for done in (0..deltas).step_by(size) {
+        let n = (deltas - done).min(size);
         // It was read before.
         let Ok(least) = varint::read_varint(chunk, at) else {
             return;
         };
-        at = fill_block(chunk, least.next, n, least.value, column, last);
-        last += n;
-        left -= n;
+        at = fill_block(chunk, least.next, n, least.value, column, done);
     }
 }
 

@@ -35,11 +35,9 @@ fn settle_blocks(
     ensures { outcome_of result ≡ validate_blocks chunk.now size before.end (block_count size deltas) deltas before.padded }
 {
     let mut read = before;
-    let mut left = deltas;
-    while left > 0 {
-        let n = left.min(size);
+    for done in (0..deltas).step_by(size) {
+        let n = (deltas - done).min(size);
         read = settle_block(chunk, read.end, n, read.padded)?;
-        left -= n;
     }
     Ok(read)
 }

@@ -1,5 +1,5 @@
 // Measuring and storing a body. A block's deltas are those of a window of the column, one value longer than the block.
-ghost use Rattle.std.specs.Prelude.{◌≡◌, map, ◌+◌, ◌≤◌, ◌<◌, pos, length, get_or};
+ghost use Rattle.std.specs.Prelude.{◌≡◌, [], ◌++◌, map, ◌+◌, ◌≤◌, ◌<◌, pos, length, get_or, MatchOption};
 ghost use Rattle.std.proofs.lemmas.List.Edits.{sets};
 ghost use Rattle.format.specs.Keys.{gap, delta};
 ghost use Rattle.format.specs.Width.{width};
@@ -44,6 +44,7 @@ fn bounds_of(window: &[i64]) -> Bounds
     let first = delta_at(window, 0);
     let mut low = first;
     let mut high = first;
+    // Tried: `array_windows`, here and in `offsets`, with which encoding took a tenth to a fifth more: LLVM carries each value over a turn.
     for i in 1..window.len() - 1 {
         let delta = delta_at(window, i);
         low = number::lesser(low, delta);
@@ -71,17 +72,38 @@ fn block_len(window: &[i64]) -> usize
     varint::varint_len(bounds.low) + 1 + packed_bytes(window.len() - 1, bounds.width())
 }
 
+// What is left of a column for blocks that were not passed yet: the values after the last one's, and that before them.
+#[derive(Drop)]
+struct Windows<'a> {
+    rest: &'a [i64],
+}
+
+impl<'a> Windows<'a> {
+    // The window of the next block.
+    fn next(&mut self) -> Option<&'a [i64]>
+        ensures { MatchOption result (blocks_of (deltas self.old.rest.now) ≡ [])
+            (λ w. (2 ≤ length w.now) × (length w.now ≤ 129) × (length self.new.rest.now < length self.old.rest.now)
+            × (blocks_of (deltas self.old.rest.now) ≡ block_bytes (deltas w.now) ++ blocks_of (deltas self.new.rest.now))) }
+    {
+        let rest = self.rest;
+        if rest.len() < 2 {
+            return None;
+        }
+        let n = (rest.len() - 1).min(DELTA_BLOCK_SIZE);
+        self.rest = &rest[n..];
+        Some(&rest[..n + 1])
+    }
+}
+
 // How many bytes all blocks of a column have.
 fn blocks_len(column: &[i64]) -> usize
     requires { length column.now ≤ max_chunk_elements }
     ensures { result ≡ length (blocks_of (deltas column.now)) }
 {
     let mut total: usize = 0;
-    let mut rest = column;
-    while rest.len() > 1 {
-        let n = (rest.len() - 1).min(DELTA_BLOCK_SIZE);
-        total += block_len(&rest[..n + 1]);
-        rest = &rest[n..];
+    let mut windows = Windows { rest: column };
+    while let Some(window) = windows.next() {
+        total += block_len(window);
     }
     total
 }
@@ -99,6 +121,7 @@ pub(crate) fn body_len(column: &[i64]) -> usize
 }
 
 // Stores the block of a window's deltas from `at` on, and answers where it ends.
+// Tried: `inline(never)`, as on dictionary's `store_codes`, with which encoding took a tenth more.
 fn store_block(window: &[i64], out: &mut [u8], at: usize) -> usize
     requires in_bounds { (2 ≤ length window.now) × (length window.now ≤ 129) }
     requires window_in_bounds { at + length (block_bytes (deltas window.now)) ≤ length out.old }
@@ -121,11 +144,9 @@ fn store_blocks(column: &[i64], out: &mut [u8], start: usize)
     ensures { out.new ≡ sets out.old start (blocks_of (deltas column.now)) }
 {
     let mut at = start;
-    let mut rest = column;
-    while rest.len() > 1 {
-        let n = (rest.len() - 1).min(DELTA_BLOCK_SIZE);
-        at = store_block(&rest[..n + 1], out, at);
-        rest = &rest[n..];
+    let mut windows = Windows { rest: column };
+    while let Some(window) = windows.next() {
+        at = store_block(window, out, at);
     }
 }
 

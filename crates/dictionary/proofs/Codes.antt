@@ -5,27 +5,22 @@ use mathlib.Core.List.{List, [], ◌∷◌, ◌++◌, map}
 use Prim.Native.Nat.{ℕ, zero, suc, ◌+◌, ◌-◌, ◌<◌, ◌≤◌, min, zero-le}
 use native.Mathlib.Decide.{dec_lt}
 use native.Mathlib.Nat.{sub-zero}
-use native.Mathlib.Numerals.{add-one}
 use native.Mathlib.Omega.{arith}
 use lib.IntN.{ℤ, pos}
 use lib.Dec.{ltb}
-use lib.ListN.{length, get_or, take, drop, length-append, drop_of_length-le, get_or-append}
-use lib.Seq.{drop-cons}
+use lib.ListN.{length, get_or, take, length-append, get_or-append}
 use borrow.Author.Tests.{lt-ltb, le-ltb, ltb-true}
+use Rattle.std.specs.List.{list_all}
 use Rattle.format.specs.Dictionary.{all_below}
 use Rattle.format.proofs.Numbers.All.{Below, all_none, all_more}
 use Rattle.dictionary.specs.Reading.{picked, picked_all}
 
 -- ---- all below
 
-module _ (entries : ℕ) (codes : List ℕ) (i : ℕ) where
-  pub below_next : i < length codes → all_below entries (drop i codes) ≡ (ltb (get_or codes i 0) entries && all_below entries (drop (i + 1) codes))
-  unfolding all_below
-  below_next h = rw (drop-cons codes i 0 h, add-one i)
-
-  pub below_end : length codes ≤ i → all_below entries (drop i codes) ≡ true
-  unfolding all_below
-  below_end h = rw (drop_of_length-le codes {i = i} h)
+pub below_all : (entries : ℕ) (codes : List ℕ) → list_all (λ c. ltb c entries) codes ≡ all_below entries codes
+unfolding all_below
+below_all entries [] = refl
+below_all entries (c ∷ cs) = ap (λ (b : Bool). ltb c entries && b) (below_all entries cs)
 
 both_true : (a b : Bool) → (a && b) ≡ true → (a ≡ true) × (b ≡ true)
 both_true true b e = (refl, e)

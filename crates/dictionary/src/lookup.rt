@@ -34,7 +34,7 @@ fn after_entries(chunk: &[u8], from: usize, n: usize) -> usize
     ensures { result ≡ after_uvarints chunk.now from n }
 {
     let mut at = from;
-    for i in 0..n {
+    for _ in 0..n {
         at = find_any(chunk, at).next;
     }
     at
@@ -85,6 +85,7 @@ fn fill_by_tables(
     let mut at = from;
     let mut last = 0;
     let mut done = 0;
+    // Tried: `step_by`, with which a chunk of 8,192 entries took 4 percent more instructions to decode, and no more time.
     while done < n {
         let held = (n - done).min(table.len());
         at = load(chunk, at, done, last, &mut table[..held]);

@@ -12,16 +12,10 @@ use format::{Extent, Header, Kind, Refusal};
 use places::block::{BLOCK, Blocks};
 
 // Is every code of a block below the number of entries?
-#[tactic(auto, using(crate::proofs::Codes::below_next, crate::proofs::Codes::below_end))]
 fn block_below(codes: &[u64], entries: u64) -> bool
     ensures { result ≡ all_below entries codes.now }
 {
-    for &code in codes {
-        if code >= entries {
-            return false;
-        }
-    }
-    true
+    codes.iter().all(|&code| code < entries)
 }
 
 // The same of all `count` codes, packed after the width byte at `place`.
@@ -39,20 +33,14 @@ fn codes_below(chunk: &[u8], place: usize, count: usize, entries: u64) -> bool
     true
 }
 
-// The width byte, the packed codes, and then the codes themselves.
+// The width byte, the packed codes, and then the codes themselves, after the entries' varints.
 #[tactic(auto, using(crate::proofs::Questions::codes_there), unfolding(crate::specs::Reading::settled_codes))]
-fn settle_codes(
-    chunk: &[u8],
-    place: usize,
-    count: usize,
-    entries: u64,
-    padded: Option<usize>,
-) -> Result<Extent, Refusal>
-    ensures { outcome_of result ≡ settled_codes chunk.now place count entries padded }
+fn settle_codes(chunk: &[u8], gaps: Extent, count: usize, entries: u64) -> Result<Extent, Refusal>
+    ensures { outcome_of result ≡ settled_codes chunk.now gaps.end count entries gaps.padded }
 {
-    let body = settle_packed(chunk, place, count, padded)?;
-    if !codes_below(chunk, place, count, entries) {
-        return Err(Kind::CodeAboveEntries.at(place));
+    let body = settle_packed(chunk, gaps.end, count, gaps.padded)?;
+    if !codes_below(chunk, gaps.end, count, entries) {
+        return Err(Kind::CodeAboveEntries.at(gaps.end));
     }
     Ok(body)
 }
@@ -69,5 +57,5 @@ pub(crate) fn settle_body(chunk: &[u8], header: Header) -> Result<Extent, Refusa
     }
     let padded = first_padded(header.padded, header.start, total.unpadded);
     let gaps = settle_uvarints(chunk, total.next, total.value as usize, padded)?;
-    settle_codes(chunk, gaps.end, header.count, total.value, gaps.padded)
+    settle_codes(chunk, gaps, header.count, total.value)
 }

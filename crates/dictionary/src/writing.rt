@@ -18,13 +18,12 @@ fn put_entries(entries: &[i64], out: &mut [u8], start: usize) -> usize
     ensures value { result ≡ start + length (entry_bytes entries.now) }
     ensures out_after { out.new ≡ sets out.old start (entry_bytes entries.now) }
 {
-    if entries.len() == 0 {
+    let Some((&first, rest)) = entries.split_first() else {
         return start;
-    }
-    let mut last = entries[0];
-    let mut at = put_varint(last, out, start);
-    for i in 1..entries.len() {
-        let entry = entries[i];
+    };
+    let mut last = first;
+    let mut at = put_varint(first, out, start);
+    for &entry in rest {
         at = put_uvarint(number::gap(last, entry), out, at);
         last = entry;
     }

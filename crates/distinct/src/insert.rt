@@ -8,18 +8,14 @@ ghost use Rattle.distinct.specs.Collect.{taken, gathered, gathered_count};
 use crate::known::holds;
 use crate::{search, stands};
 
-// The values from `at` to `held` go up by one place, the last first, and the key is put at `at`. The library's `rotate_right` moves
-// them by memmove, and of C's library the archive may call memset alone.
+// The values from `at` to `held` go up by one place, the last first, and the key is put at `at`. Tried: the library's `rotate_right`; it
+// moves them by memmove, as `nm` shows, and of C's library the archive may call memset alone.
 fn put_in(scratch: &mut [i64], at: usize, held: usize, key: i64)
     requires { (at ≤ held) × (held < length scratch.old) }
     ensures { scratch.new ≡ take at scratch.old ++ (key ∷ (slice at held scratch.old ++ drop (suc held) scratch.old)) }
 {
-    let mut i = held;
-    while i > at {
-        let below = i - 1;
-        let value = scratch[below];
-        scratch[i] = value;
-        i = below;
+    for i in (at..held).rev() {
+        scratch[i + 1] = scratch[i];
     }
     scratch[at] = key;
 }

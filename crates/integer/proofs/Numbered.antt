@@ -25,6 +25,16 @@ and_right false b e = cc
 too_large : (n : ℕ) → suc (suc (suc (suc (suc (suc (suc (suc n))))))) ≤ 7 → ⊥
 too_large n h = omega arith
 
+-- a number that is none of 1 to 7 names no encoding
+pub other-number : (n : ℕ) → (1 ≤ n → n ≤ 7 → ⊥) → refused 2 0 ≡ encoding_named n
+unfolding encoding_named
+other-number n others = go (leb 1 n) (leb n 7) refl refl
+  where
+    go : (low high : Bool) → leb 1 n ≡ low → leb n 7 ≡ high → refused 2 0 ≡ (check (low && high) 2 0 >>= λ _. ok (encoding_of n))
+    go false high p q = refl
+    go true false p q = refl
+    go true true p q = absurd (others (leb-true 1 n p) (leb-true n 7 q))
+
 -- the id of the encoding with a number is that number: seven cases
 pub id-of : (number : ℕ) → within 1 7 number ≡ true → number ≡ id_of (encoding_of number)
 unfolding encoding_of encodings

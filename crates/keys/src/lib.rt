@@ -11,7 +11,8 @@ ghost use Rattle.keys.specs.Rows.{times_after, filled_from};
 use format::limits::MAX_CHUNK_ELEMENTS;
 use varint::find::{Found, find_any, find_uvarint};
 
-// A length: mostly of one byte, which needs no call.
+// A length: mostly of one byte. Tried: `find_any` alone, which asks the same; runs of one value took 3 instructions more each, 4 to 5
+// percent, and 1 to 6 percent longer.
 fn find_length(chunk: &[u8], at: usize) -> Found
     ensures { result ≡ found_at chunk.now at }
 {

@@ -29,8 +29,8 @@ impl Codec for Plain {
     }
 
     fn fill(chunk: &[u8], header: Header, column: &mut [i64]) {
-        for i in 0..header.count {
-            column[i] = number::of_bits(words::load(chunk, header.start + 8 * i));
+        for (i, slot) in column[..header.count].iter_mut().enumerate() {
+            *slot = number::of_bits(words::load(chunk, header.start + 8 * i));
         }
     }
 }

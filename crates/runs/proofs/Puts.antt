@@ -1,11 +1,11 @@
 -- Storing the runs of a column: each run is its key's varint and its length's, one after the other, and where the whole has room so has each of them.
 use mathlib.Core.Path.{◌≡◌, refl, ap, ◌∙◌}
-use mathlib.Core.List.{List, ◌∷◌, ◌++◌, append_assoc}
-use Prim.Native.Nat.{ℕ, ◌+◌, ◌-◌, ◌^◌, ◌≤◌, ◌<◌}
+use mathlib.Core.List.{List, [], ◌∷◌, ◌++◌, append_assoc}
+use Prim.Native.Nat.{ℕ, ◌+◌, ◌^◌, ◌≤◌, ◌<◌}
 use borrow.Author.Rules.{sfits_of}
-use lib.IntN.{ℤ, pos}
+use lib.IntN.{ℤ}
 use lib.Signed.{mag}
-use lib.ListN.{length, get_or, drop, drop_of_length-le}
+use lib.ListN.{length}
 use lib.Seq.{sets}
 use mir.Syntax.{w64}
 use mir.Val.{to_z, of_z}
@@ -15,7 +15,9 @@ use Rattle.format.specs.Varint.{uvarint_bytes, varint_bytes}
 use Rattle.format.specs.Runs.{Run, runs, run_bytes, run_body}
 use Rattle.format.proofs.Numbers.Stores.{Storing, storing-none, storing-room, storing-end, storing-done}
 use Rattle.places.proofs.Placing.{PutUvarint, storing-uvarint}
-use Rattle.runs.specs.RunAt.{run_of, RunAt}
+use Rattle.runs.specs.RunAt.{to_come}
+use Rattle.runs.specs.declared.writing.Runs.{Runs}
+use Rattle.runs.proofs.RunEnds.{taken, none_after}
 
 -- ---- the runs
 
@@ -27,26 +29,26 @@ first-bytes r rs = append_assoc (uvarint_bytes (zigzag r.key)) (uvarint_bytes r.
 pub putting_none : (column : List ℤ) (output : List ℕ) (from : ℕ) → Storing (run_bytes (runs column)) output from (run_bytes (runs column)) output from
 putting_none column output from = storing-none
 
-module _ (column : List ℤ) (output : List ℕ) (from start : ℕ) (out : List ℕ) (at : ℕ)
-    (stores : Storing (run_bytes (runs column)) output from (run_bytes (runs (drop start column))) out at)
+module _ (column : List ℤ) (output : List ℕ) (from : ℕ) (r : Runs) (out : List ℕ) (at : ℕ)
+    (stores : Storing (run_bytes (runs column)) output from (run_bytes (runs r.0.now)) out at)
   where
     -- a run more; the first call is handed its key by its bits
     pub putting_more :
-        {end after-key : ℕ} {middle : List ℕ} {last : ℕ} {next : List ℕ} → from + length (run_bytes (runs column)) ≤ length output → RunAt column start end
-        → mag (get_or column start (pos 0)) < 2 ^ 63 → PutUvarint (zigzag (to_z w64 (of_z w64 (get_or column start (pos 0))))) out at middle after-key
-        → PutUvarint (end - start) middle after-key next last → Storing (run_bytes (runs column)) output from (run_bytes (runs (drop end column))) next last
-    putting_more {end} room r fits key times =
-        let run = run_of column start end in
-        let rest = runs (drop end column) in
-        let k = rw (to_z-of_z {z = get_or column start (pos 0)} (sfits_of fits)) at key in
-        let first = storing-uvarint stores room (zigzag run.key) (uvarint_bytes run.times ++ run_bytes rest) (ap run_bytes r.first ∙ first-bytes run rest) k in
-        storing-uvarint first room run.times (run_bytes rest) refl times
+        (rest : Runs) {k : ℤ} {t after-key : ℕ} {middle : List ℕ} {last : ℕ} {next : List ℕ} → from + length (run_bytes (runs column)) ≤ length output
+        → to_come r ≡ (k, t) ∷ to_come rest → mag k < 2 ^ 63 → PutUvarint (zigzag (to_z w64 (of_z w64 k))) out at middle after-key
+        → PutUvarint t middle after-key next last → Storing (run_bytes (runs column)) output from (run_bytes (runs rest.0.now)) next last
+    putting_more rest {k} {t} room e fits put times =
+        let key = rw (to_z-of_z {z = k} (sfits_of fits)) at put in
+        let run : Run = record { key = k; times = t } in
+        let others = runs rest.0.now in
+        let first = storing-uvarint stores room (zigzag k) (uvarint_bytes t ++ run_bytes others) (ap run_bytes (taken r rest e) ∙ first-bytes run others) key in
+        storing-uvarint first room t (run_bytes others) refl times
 
     -- none is left
-    pub putting_done : length column ≤ start → (at ≡ from + length (run_bytes (runs column))) × (out ≡ sets output from (run_bytes (runs column)))
-    unfolding runs run_bytes
-    putting_done h =
-        let none = ap (λ (l : List ℤ). run_bytes (runs l)) (drop_of_length-le column h) in
+    pub putting_done : to_come r ≡ [] → (at ≡ from + length (run_bytes (runs column))) × (out ≡ sets output from (run_bytes (runs column)))
+    unfolding run_bytes
+    putting_done e =
+        let none = ap run_bytes (none_after r e) in
         (storing-end stores none, storing-done stores none)
 
 -- ---- the body

@@ -2,8 +2,8 @@
 -- column's end, closes the run. The machine's test of two keys compares their bits, which are the same where the keys are.
 use mathlib.Core.Path.{◌≡◌, refl, sym, ap, ◌∙◌}
 use mathlib.Core.Bool.{Bool, true, false, ◌&&◌}
-use mathlib.Core.List.{List, ◌∷◌}
-use Prim.Native.Nat.{ℕ, zero, suc, ◌+◌, ◌-◌, ◌^◌, ◌≤◌, ◌<◌}
+use mathlib.Core.List.{List, [], ◌∷◌}
+use Prim.Native.Nat.{ℕ, zero, suc, ◌+◌, ◌^◌, ◌≤◌, ◌<◌}
 use native.Mathlib.Nat.{add-zero, add-suc}
 use native.Mathlib.Numerals.{add-one}
 use native.Mathlib.Omega.{arith}
@@ -12,13 +12,17 @@ use lib.IntN.{ℤ, pos}
 use lib.Signed.{mag}
 use lib.ListN.{length, get_or, drop, drop_of_length-le}
 use lib.Seq.{drop-cons}
+use Rattle.std.specs.Prelude.{map}
 use mir.Syntax.{w64}
-use mir.Val.{of_z}
+use borrow.Author.Rules.{sfits_of}
+use mir.Val.{to_z, of_z}
+use mir.Facts.{to_z-of_z}
 use Rattle.format.specs.Keys.{eq_z}
-use Rattle.format.specs.Runs.{runs_from, runs}
+use Rattle.format.specs.Runs.{Run, runs_from, runs}
 use Rattle.format.proofs.Numbers.Order.{eq_z-true}
 use Rattle.number.proofs.Signed.{same_bits}
-use Rattle.runs.specs.RunAt.{run_of, Running, RunAt, same_key, same_from}
+use Rattle.runs.specs.RunAt.{run_of, Running, FirstRun, same_key, same_from, parts, to_come}
+use Rattle.runs.specs.declared.writing.Runs.{Runs}
 
 -- a walk meets the same value once more,
 walk_same : (key v : ℤ) (times : ℕ) (vs : List ℤ) → eq_z key v ≡ true → runs_from key times (v ∷ vs) ≡ runs_from key (times + 1) vs
@@ -31,40 +35,38 @@ unfolding runs_from runs
 walk-other key v times vs e = rw e
 
 -- keys that were read are compared by their bits
-pub same_key_lem : (column : List ℤ) (start at : ℕ) → mag (get_or column start (pos 0)) < 2 ^ 63 → mag (get_or column at (pos 0)) < 2 ^ 63
-    → eqb (of_z w64 (get_or column start (pos 0))) (of_z w64 (get_or column at (pos 0))) ≡ same_key column start at
-same_key_lem column start at f g = same_bits (get_or column start (pos 0)) (get_or column at (pos 0)) f g
+pub same_key_lem : (values : List ℤ) (at : ℕ) → mag (get_or values 0 (pos 0)) < 2 ^ 63 → mag (get_or values at (pos 0)) < 2 ^ 63
+    → eqb (of_z w64 (get_or values 0 (pos 0))) (of_z w64 (get_or values at (pos 0))) ≡ same_key values at
+same_key_lem values at f g = same_bits (get_or values 0 (pos 0)) (get_or values at (pos 0)) f g
 
-module _ (column : List ℤ) where
-  -- a run begins with one value
-  pub running_one : (start : ℕ) → start < length column → Running column start (start + 1)
-  unfolding runs
-  running_one start h =
-      let one : start + 1 - start ≡ 1 = omega arith in
-      record { some = omega arith; within = omega arith; whole = rw (one, drop-cons column start (pos 0), add-one start) }
+-- a run begins with one value
+pub running_one : (values : List ℤ) → 0 < length values → Running values 1
+unfolding runs
+running_one [] h = absurd (omega (arith, h))
+running_one (v ∷ vs) h = record { some = omega arith; within = omega (arith, h); whole = refl }
 
-  module _ {start end : ℕ} (r : Running column start end) where
-    -- the column's end
-    pub running_last : length column ≤ end → RunAt column start end
+module _ (values : List ℤ) where
+  module _ {end : ℕ} (r : Running values end) where
+    -- the values' end
+    pub running_last : length values ≤ end → FirstRun values end
     unfolding runs_from runs
-    running_last h = record { some = r.some; within = r.within; first = r.whole ∙ rw (drop_of_length-le column h) }
+    running_last h = record { some = r.some; within = r.within; first = r.whole ∙ rw (drop_of_length-le values h) }
 
-    module _ (h : end < length column) where
-      from_end : drop end column ≡ get_or column end (pos 0) ∷ drop (end + 1) column
-      from_end = rw (add-one end) (drop-cons column end (pos 0) h)
+    module _ (h : end < length values) where
+      from_end : drop end values ≡ get_or values end (pos 0) ∷ drop (end + 1) values
+      from_end = rw (add-one end) (drop-cons values end (pos 0) h)
 
       -- the same value once more
-      pub running_more : same_key column start end ≡ true → Running column start (end + 1)
+      pub running_more : same_key values end ≡ true → Running values (end + 1)
       running_more e =
-          let times : end - start + 1 ≡ end + 1 - start = omega (arith, r.some) in
           record {
             some = omega (arith, r.some);
             within = omega arith;
-            whole = r.whole ∙ ap (runs_from _ _) from_end ∙ walk_same _ _ _ _ e ∙ rw times;
+            whole = r.whole ∙ ap (runs_from _ _) from_end ∙ walk_same _ _ _ _ e;
           }
 
       -- another value
-      pub running_other : same_key column start end ≡ false → RunAt column start end
+      pub running_other : same_key values end ≡ false → FirstRun values end
       running_other e =
           record {
             some = r.some;
@@ -73,7 +75,7 @@ module _ (column : List ℤ) where
                 r.whole
                 ∙ ap (runs_from _ _) from_end
                 ∙ walk-other _ _ _ _ e
-                ∙ ap (λ (l : List ℤ). run_of column start end ∷ runs l) (sym from_end);
+                ∙ ap (λ (l : List ℤ). run_of values end ∷ runs l) (sym from_end);
           }
 
 -- ---- eight at a time
@@ -88,20 +90,59 @@ and_second true b h = h
 and_second false b h = cc
 
 -- n values more
-pub running_several : (column : List ℤ) {start end : ℕ} → Running column start end → (n : ℕ) → end + n ≤ length column → same_from column start end n ≡ true
-    → Running column start (end + n)
+pub running_several : (values : List ℤ) {end : ℕ} → Running values end → (n : ℕ) → end + n ≤ length values → same_from values end n ≡ true
+    → Running values (end + n)
 unfolding same_from
-running_several column {end} r zero h e = rw (add-zero end) r
-running_several column {start} {end} r (suc n) h e =
-    let before = running_several column r n (omega arith) (and_first (same_from column start end n) (same_key column start (end + n)) e) in
-    let more = running_more column before (omega arith) (and_second (same_from column start end n) (same_key column start (end + n)) e) in
+running_several values {end} r zero h e = rw (add-zero end) r
+running_several values {end} r (suc n) h e =
+    let before = running_several values r n (omega arith) (and_first (same_from values end n) (same_key values (end + n)) e) in
+    let more = running_more values before (omega arith) (and_second (same_from values end n) (same_key values (end + n)) e) in
     rw (add-suc end n) (rw (add-one (end + n)) at more)
 
 -- none, and one more
-pub same_none : (column : List ℤ) (start at : ℕ) → same_from column start at 0 ≡ true
+pub same_none : (values : List ℤ) (at : ℕ) → same_from values at 0 ≡ true
 unfolding same_from
-same_none column start at = refl
+same_none values at = refl
 
-pub same_more : (column : List ℤ) (start at n : ℕ) → same_from column start at (n + 1) ≡ (same_from column start at n && same_key column start (at + n))
+pub same_more : (values : List ℤ) (at n : ℕ) → same_from values at (n + 1) ≡ (same_from values at n && same_key values (at + n))
 unfolding same_from
-same_more column start at n = rw (add-one n)
+same_more values at n = rw (add-one n)
+
+-- ---- the walk
+
+-- a run by its parts, and the runs that a walk has left by theirs
+abbrev pub of_parts : ℤ × ℕ → Run
+of_parts p = record { key = p.0; times = p.1 }
+
+back : (rs : List Run) → map of_parts (map parts rs) ≡ rs
+back [] = refl
+back (r ∷ rs) = ap (λ (ss : List Run). r ∷ ss) (back rs)
+
+-- none is left
+pub none_left : (r : Runs) → length r.0.now ≡ 0 → to_come r ≡ []
+unfolding to_come runs
+none_left r h = go r.0.now h
+  where
+    go : (l : List ℤ) → length l ≡ 0 → map parts (runs l) ≡ []
+    go [] h = refl
+    go (v ∷ vs) h = absurd (omega (arith, h))
+
+pub none_after : (r : Runs) → to_come r ≡ [] → runs r.0.now ≡ []
+unfolding to_come
+none_after r e = sym (back (runs r.0.now)) ∙ ap (map of_parts) e
+
+-- one is taken
+pub taken : (r rest : Runs) {k : ℤ} {t : ℕ} → to_come r ≡ (k, t) ∷ to_come rest → runs r.0.now ≡ record { key = k; times = t } ∷ runs rest.0.now
+unfolding to_come
+taken r rest {k} {t} e =
+    sym (back (runs r.0.now)) ∙ ap (map of_parts) e ∙ ap (λ (rs : List Run). record { key = k; times = t } ∷ rs) (back (runs rest.0.now))
+
+-- the first run is taken; its key is handed on by its bits
+pub first_taken : (r rest : Runs) {k : ℤ} {t : ℕ} → FirstRun r.0.now t → mag k < 2 ^ 63 → k ≡ get_or r.0.now 0 (pos 0) → rest.0.now ≡ drop t r.0.now
+    → to_come r ≡ (to_z w64 (of_z w64 k), t) ∷ to_come rest
+unfolding to_come
+first_taken r rest {k} f fits key e = rw (to_z-of_z {z = k} (sfits_of fits), key, e) (ap (map parts) f.first)
+
+pub fewer : (r rest : Runs) {k : ℤ} {t : ℕ} → FirstRun r.0.now t → mag k < 2 ^ 63 → k ≡ get_or r.0.now 0 (pos 0) → rest.0.now ≡ drop t r.0.now
+    → length (to_come rest) < length (to_come r)
+fewer r rest f fits key e = omega (arith, ap length (first_taken r rest f fits key e))

@@ -1,29 +1,38 @@
--- A run in a column: where it begins and where it ends (01, "Written runs are longest possible").
-use Rattle.std.specs.Prelude.{◌≡◌, Bool, true, ◌&&◌, List, ◌∷◌, ℕ, zero, suc, ◌+◌, ◌-◌, ◌≤◌, ◌<◌, ℤ, pos, length, get_or, drop}
+-- The first run of values: where it ends (01, "Written runs are longest possible"); and the runs that a walk has left.
+use Rattle.std.specs.Prelude.{◌≡◌, Bool, true, ◌&&◌, List, ◌∷◌, ℕ, zero, suc, ◌+◌, ◌≤◌, ◌<◌, ℤ, pos, length, get_or, drop, map}
 use Rattle.format.specs.Keys.{eq_z}
 use Rattle.format.specs.Runs.{Run, runs_from, runs}
+use Rattle.runs.specs.declared.writing.Runs.{Runs}
 
--- the run from one place to another, by its key
-abbrev pub run_of : List ℤ → ℕ → ℕ → Run
-run_of column start end = record { key = get_or column start (pos 0); times = end - start }
+-- the first `end` values as a run
+abbrev pub run_of : List ℤ → ℕ → Run
+run_of values end = record { key = get_or values 0 (pos 0); times = end }
 
--- a walk along a run: from `start` on every value up to `end` was the same, and the rest is still to come
-pub record Running (column : List ℤ) (start end : ℕ) : Type 0 where
-  pub some : start < end
-  pub within : end ≤ length column
-  pub whole : runs (drop start column) ≡ runs_from (get_or column start (pos 0)) (end - start) (drop end column)
+-- a walk along the first run: every value up to `end` was the same, and the rest is still to come
+pub record Running (values : List ℤ) (end : ℕ) : Type 0 where
+  pub some : 0 < end
+  pub within : end ≤ length values
+  pub whole : runs values ≡ runs_from (get_or values 0 (pos 0)) end (drop end values)
 
--- the whole run: what is written from `start` on begins with the run from there to `end`, and goes on from `end`
-pub record RunAt (column : List ℤ) (start end : ℕ) : Type 0 where
-  pub some : start < end
-  pub within : end ≤ length column
-  pub first : runs (drop start column) ≡ run_of column start end ∷ runs (drop end column)
+-- the whole run: what is written of the values begins with the run up to `end`, and goes on from there
+pub record FirstRun (values : List ℤ) (end : ℕ) : Type 0 where
+  pub some : 0 < end
+  pub within : end ≤ length values
+  pub first : runs values ≡ run_of values end ∷ runs (drop end values)
 
--- the value at `at` is the one at `start`
-abbrev pub same_key : List ℤ → ℕ → ℕ → Bool
-same_key column start at = eq_z (get_or column start (pos 0)) (get_or column at (pos 0))
+-- the value at `at` is the first
+abbrev pub same_key : List ℤ → ℕ → Bool
+same_key values at = eq_z (get_or values 0 (pos 0)) (get_or values at (pos 0))
 
 -- n values from `at` on are
-unfoldable pub same_from : List ℤ → ℕ → ℕ → ℕ → Bool
-same_from column start at zero = true
-same_from column start at (suc n) = same_from column start at n && same_key column start (at + n)
+unfoldable pub same_from : List ℤ → ℕ → ℕ → Bool
+same_from values at zero = true
+same_from values at (suc n) = same_from values at n && same_key values (at + n)
+
+-- the key and the length of a run
+abbrev pub parts : Run → ℤ × ℕ
+parts r = (r.key, r.times)
+
+-- the runs that a walk has left
+unfoldable pub to_come : Runs → List (ℤ × ℕ)
+to_come r = map parts (runs r.0.now)

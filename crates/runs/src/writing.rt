@@ -6,72 +6,92 @@ ghost use Rattle.format.specs.Header.{header_len};
 ghost use Rattle.format.specs.Varint.{uvarint_len, varint_len};
 ghost use Rattle.format.specs.Runs.{runs, run_bytes, run_body};
 ghost use Rattle.codec.specs.Lacking.{Lacking};
-ghost use Rattle.runs.specs.RunAt.{RunAt, Running, same_key, same_from};
+ghost use Rattle.std.specs.Iterator.{YieldsFirst, item_count};
+ghost use Rattle.runs.specs.RunAt.{FirstRun, Running, same_key, same_from, to_come};
 
 use codec::header::header_len;
 use places::{put_uvarint, put_varint};
 use varint::uvarint_len_small;
 
-// Whether the value at `at` is the run's, which begins at `start`.
+// Whether the value at `at` is the first.
 #[tactic(auto, using(crate::proofs::RunEnds::same_key_lem))]
-fn same_key(column: &[i64], start: usize, at: usize) -> bool
-    requires { (start < length column.now) × (at < length column.now) }
-    ensures { result ≡ same_key column.now start at }
+fn same_key(values: &[i64], at: usize) -> bool
+    requires { at < length values.now }
+    ensures { result ≡ same_key values.now at }
 {
-    column[start] == column[at]
+    values[0] == values[at]
 }
 
 // Whether the eight values from `at` on are. `&` leaves no branch between them.
 #[tactic(auto, using(crate::proofs::RunEnds::same_none, crate::proofs::RunEnds::same_more))]
-fn same_eight(column: &[i64], start: usize, at: usize) -> bool
-    requires { (start < length column.now) × (at + 8 ≤ length column.now) }
-    ensures { result ≡ same_from column.now start at 8 }
+fn same_eight(values: &[i64], at: usize) -> bool
+    requires { at + 8 ≤ length values.now }
+    ensures { result ≡ same_from values.now at 8 }
 {
     let mut same = true;
     for k in 0..8 {
-        same &= same_key(column, start, at + k);
+        same &= same_key(values, at + k);
     }
     same
 }
 
-// How far a run goes that is known up to `from`, eight values at a time.
+// How far the first run goes that is known up to `from`, eight values at a time.
 #[tactic(auto, using(crate::proofs::RunEnds::running_several))]
-fn skip_eights(column: &[i64], start: usize, from: usize) -> usize
-    requires { Running column.now start from }
-    ensures { Running column.now start result }
+fn skip_eights(values: &[i64], from: usize) -> usize
+    requires { Running values.now from }
+    ensures { Running values.now result }
 {
     let mut end = from;
-    while column.len() - end >= 8 && same_eight(column, start, end) {
+    while values.len() - end >= 8 && same_eight(values, end) {
         end += 8;
     }
     end
 }
 
-// Where a run ends that is known up to `from`: the place of the next other value, or the column's end.
+// Where the first run ends that is known up to `from`: the place of the next other value, or the values' end.
 #[tactic(auto, using(crate::proofs::RunEnds::running_more, crate::proofs::RunEnds::running_other, crate::proofs::RunEnds::running_last))]
-fn end_from(column: &[i64], start: usize, from: usize) -> usize
-    requires { Running column.now start from }
-    ensures { RunAt column.now start result }
+fn end_from(values: &[i64], from: usize) -> usize
+    requires { Running values.now from }
+    ensures { FirstRun values.now result }
 {
-    for end in from..column.len() {
-        if !same_key(column, start, end) {
+    for end in from..values.len() {
+        if !same_key(values, end) {
             return end;
         }
     }
-    column.len()
+    values.len()
 }
 
-// Where the run that begins at `start` ends. A run of one value is told at once; a longer one is walked in eights first.
+// How many values the first run has. A run of one value is told at once; a longer one is walked in eights first.
 #[tactic(auto, using(crate::proofs::RunEnds::running_one, crate::proofs::RunEnds::running_other, crate::proofs::RunEnds::running_last))]
-fn run_end(column: &[i64], start: usize) -> usize
-    requires { start < length column.now }
-    ensures { RunAt column.now start result }
+fn first_run(values: &[i64]) -> usize
+    requires { 0 < length values.now }
+    ensures { FirstRun values.now result }
 {
-    let next = start + 1;
-    if column.len() <= next || !same_key(column, start, next) {
-        return next;
+    if values.len() <= 1 || !same_key(values, 1) {
+        return 1;
     }
-    end_from(column, start, skip_eights(column, start, next))
+    end_from(values, skip_eights(values, 1))
+}
+
+// The runs of the values that are left of a column: each run's key, and how many values it has.
+#[derive(Drop)]
+struct Runs<'a>(&'a [i64]);
+
+impl<'a> Iterator for Runs<'a> {
+    type Item = (i64, usize);
+
+    ghost next_gives = { YieldsFirst to_come };
+
+    ghost remaining = { item_count to_come };
+
+    #[tactic(auto, using(crate::proofs::RunEnds::none_left))]
+    fn next(&mut self) -> Option<(i64, usize)> {
+        let key = *self.0.first()?;
+        let times = first_run(self.0);
+        self.0 = &self.0[times..];
+        Some((key, times))
+    }
 }
 
 // How many runs a column has: the first value begins one, and so does each that is not the one before it. The compiler makes
@@ -84,6 +104,7 @@ pub(crate) fn count_runs(column: &[i64]) -> usize
         return 0;
     }
     let mut count = 1;
+    // Tried: `windows(2)`, and `zip` with the values after the first: a seventh more instructions, and a tenth longer.
     for i in 1..column.len() {
         count += usize::from(column[i - 1] != column[i]);
     }
@@ -105,11 +126,8 @@ fn runs_len(column: &[i64]) -> usize
     ensures { result ≡ length (run_bytes (runs column.now)) }
 {
     let mut bytes = 0;
-    let mut start = 0;
-    while start < column.len() {
-        let end = run_end(column, start);
-        bytes += run_len(column[start], end - start);
-        start = end;
+    for (key, times) in Runs(column) {
+        bytes += run_len(key, times);
     }
     bytes
 }
@@ -137,12 +155,9 @@ fn store_runs(column: &[i64], out: &mut [u8], from: usize) -> usize
     ensures out_after { out.new ≡ sets out.old from (run_bytes (runs column.now)) }
 {
     let mut at = from;
-    let mut start = 0;
-    while start < column.len() {
-        let end = run_end(column, start);
-        let after_key = put_varint(column[start], out, at);
-        at = put_uvarint((end - start) as u64, out, after_key);
-        start = end;
+    for (key, times) in Runs(column) {
+        let after_key = put_varint(key, out, at);
+        at = put_uvarint(times as u64, out, after_key);
     }
     at
 }

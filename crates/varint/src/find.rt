@@ -80,6 +80,7 @@ pub fn find_uvarint(bytes: &[u8], at: usize) -> Found
         };
     }
     let mut value = group(first);
+    // Tried: the bytes of a slice by `iter().enumerate()`, a loop that is not unrolled: keys of more than one byte took 1.9 to 3.4 times as long.
     for k in 1..8 {
         let b = bytes[at + k];
         value = value.wrapping_add(group(b) << (7 * k as u32));

@@ -107,6 +107,7 @@ pub fn write_uvarint(value: u64, out: &mut [u8]) -> Result<usize, Refusal>
     }
     let mut rest = value;
     let mut pos = 0;
+    // The Rust writes LEB128 with this loop too: how often it turns is known from `rest` alone.
     while rest >= 128 {
         out[pos] = (rest % 128) as u8 + 128;
         rest >>= 7;

@@ -17,22 +17,20 @@ fn read_long(bytes: &[u8], at: usize, low: u64, from: usize, bits: u32) -> Resul
     // Ten bytes on, or where the bytes end. Where ten are known to be there, so is the end, and the compiler unrolls the loop.
     let end = at + (bytes.len() - at).min(10);
     let mut value = low;
-    let mut pos = from;
     let mut shift = bits;
-    while pos < end {
+    for pos in from..end {
         let b = bytes[pos];
         value = value.wrapping_add(group(b) << shift);
-        pos += 1;
         if b < 128 {
             return Ok(Uvarint {
                 value,
-                next: pos,
+                next: pos + 1,
                 unpadded: b != 0,
             });
         }
         shift += 7;
     }
-    if pos < bytes.len() {
+    if end < bytes.len() {
         return Err(Kind::VarintTooLong.at(at));
     }
     Err(Kind::VarintCut.at(at))

@@ -48,6 +48,7 @@ fn greatest_of_tens(bytes: &[u8]) -> u8
     ensures { (i : ℕ) → i + 10 ≤ length bytes.now → least10 bytes.now i ≤ result }
 {
     let mut most: u8 = 0;
+    // Tried, without its proof: `windows(10)`, which took 6 percent more instructions, though no longer.
     for last in 9..bytes.len() {
         most = most.max(least_of_ten(bytes, last - 9));
     }

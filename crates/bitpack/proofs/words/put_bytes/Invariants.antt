@@ -1,10 +1,9 @@
--- After j turns the j lowest bytes of x are stored, and `rest` is what is above them.
+-- After some turns so many lowest bytes of x are stored, and `rest` is what is above them.
 use mathlib.Core.Path.{◌≡◌}
-use Prim.Native.Nat.{◌/◌, ◌^◌, ◌≤◌}
-use lib.ListN.{length}
+use Prim.Native.Nat.{◌/◌, ◌^◌}
 use lib.Seq.{sets}
 use Rattle.format.specs.Digits.{digits}
 use Rattle.bitpack.proofs.words.put_bytes.Given as goal
 
-abbrev pub invariant-loop-j : goal.invariant-loop-j
-invariant-loop-j l = (l.j ≤ l.t) × (length l.out ≡ length l.initial.out) × (l.rest ≡ l.x / 256 ^ l.j) × (l.out ≡ sets l.initial.out l.p (digits 256 l.j l.x))
+abbrev pub invariant-loop-byte : goal.invariant-loop-byte
+invariant-loop-byte l = (l.rest ≡ l.x / 256 ^ l.byte-index) × (l.byte-items ≡ sets l.initial.byte-items 0 (digits 256 l.byte-index l.x))

@@ -6,8 +6,8 @@ use Rattle.format.specs.Folds.{deltas}
 use Rattle.delta.specs.Written.{blocks_of}
 use Rattle.delta.proofs.writing.blocks_len.Given as goal
 
-abbrev pub invariant-loop-rest : goal.invariant-loop-rest
-invariant-loop-rest l = l.total + length (blocks_of (deltas l.rest)) ≡ length (blocks_of (deltas l.column))
+abbrev pub invariant-loop-window : goal.invariant-loop-window
+invariant-loop-window l = l.total + length (blocks_of (deltas l.windows.rest.now)) ≡ length (blocks_of (deltas l.column))
 
-abbrev pub decreases-loop-rest : goal.decreases-loop-rest
-decreases-loop-rest l = length l.rest
+abbrev pub decreases-loop-window : goal.decreases-loop-window
+decreases-loop-window l = length l.windows.rest.now

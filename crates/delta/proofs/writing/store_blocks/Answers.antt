@@ -1,20 +1,25 @@
 -- `writing::store_blocks` meets its contract: what is left of the blocks, stored where it stands, is the whole.
-use borrow.Author.Rules.{rules}
-use Rattle.bitpack.proofs.Parts.{part-rest}
-use Rattle.format.proofs.Numbers.Stores.{storing-done}
-use Rattle.delta.proofs.Measured.{no-window}
-use Rattle.delta.proofs.Placed.{block_room, blocks-placed}
+use mathlib.Core.Path.{ap}
+use native.Mathlib.Omega.{arith}
+use lib.ListN.{length, length-append}
+use Rattle.format.specs.Folds.{deltas}
+use Rattle.format.specs.Delta.{block_bytes}
+use Rattle.format.proofs.Numbers.Stores.{storing-part, storing-room, storing-done}
+use Rattle.delta.specs.Written.{blocks_of}
 use Rattle.delta.proofs.writing.store_blocks.Goals as goal
 
 pub store_block-at-requires : goal.store_block-at-requires
 store_block-at-requires c =
-    let l = c.loop-rest in
-    record { in_bounds = search rules; window_in_bounds = block_room l.rest.now c.min-n.result l.at c.loop-rest-test.true c.min-n.ensures l.invariant c.requires }
+    let w = c.in-Some.ensures in
+    record {
+      in_bounds = (w.0, w.1);
+      window_in_bounds = omega (arith, storing-room c.loop-window.invariant c.requires, ap length w.3, length-append (block_bytes (deltas c.in-Some.window.now)) (blocks_of (deltas c.next.new.self.rest.now)));
+    }
 
-pub loop-rest-preserved : goal.loop-rest-preserved
-loop-rest-preserved c =
-    let l = c.loop-rest in
-    rw part-rest (blocks-placed l.rest.now c.min-n.result l.at c.loop-rest-test.true c.min-n.ensures l.invariant c.store_block-at.ensures.value c.store_block-at.ensures.out_after)
+pub loop-window-preserved : goal.loop-window-preserved
+loop-window-preserved c =
+    let e = c.store_block-at.ensures in
+    rw (e.value, e.out_after) (storing-part c.loop-window.invariant _ _ c.in-Some.ensures.3)
 
 pub returns : goal.returns
-returns c = storing-done c.loop-rest.invariant (no-window c.loop-rest.rest.now c.loop-rest-test.false)
+returns c = storing-done c.loop-window.invariant c.in_default.ensures

@@ -5,8 +5,8 @@ use Rattle.format.proofs.Numbers.Stores.{Storing}
 use Rattle.delta.specs.Written.{blocks_of}
 use Rattle.delta.proofs.writing.store_blocks.Given as goal
 
-abbrev pub invariant-loop-rest : goal.invariant-loop-rest
-invariant-loop-rest l = Storing (blocks_of (deltas l.column)) l.initial.out l.start (blocks_of (deltas l.rest)) l.out l.at
+abbrev pub invariant-loop-window : goal.invariant-loop-window
+invariant-loop-window l = Storing (blocks_of (deltas l.column)) l.initial.out l.start (blocks_of (deltas l.windows.rest.now)) l.out l.at
 
-abbrev pub decreases-loop-rest : goal.decreases-loop-rest
-decreases-loop-rest l = length l.rest
+abbrev pub decreases-loop-window : goal.decreases-loop-window
+decreases-loop-window l = length l.windows.rest.now

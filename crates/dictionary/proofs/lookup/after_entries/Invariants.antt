@@ -4,5 +4,5 @@ use Prim.Native.Nat.{◌-◌}
 use Rattle.format.specs.Varint.{after_uvarints}
 use Rattle.dictionary.proofs.lookup.after_entries.Given as goal
 
-abbrev pub invariant-loop-i : goal.invariant-loop-i
-invariant-loop-i l = after_uvarints l.chunk l.at (l.n - l.i) ≡ after_uvarints l.chunk l.from l.n
+abbrev pub invariant-loop : goal.invariant-loop
+invariant-loop l = after_uvarints l.chunk l.at (l.n - l.counter) ≡ after_uvarints l.chunk l.from l.n

@@ -4,6 +4,3 @@ use Rattle.distinct.proofs.insert.put_in.Given as goal
 
 abbrev pub invariant-loop-i : goal.invariant-loop-i
 invariant-loop-i l = Shifting l.initial.scratch l.at l.held l.scratch l.i
-
-abbrev pub decreases-loop-i : goal.decreases-loop-i
-decreases-loop-i l = l.i

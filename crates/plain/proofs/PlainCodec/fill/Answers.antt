@@ -1,13 +1,15 @@
 -- After i turns the values of the bytes from start + 8 * i on are left.
 use mathlib.Core.Path.{◌∙◌, ap}
+use Prim.Native.Nat.{◌<◌, ◌≤◌}
 use native.Mathlib.Omega.{arith}
+use lib.Seq.{length-take-le}
 use mir.Syntax.{w64}
 use mir.Facts.{to_z-of_z}
 use Rattle.format.specs.Chunk.{body_values}
 use Rattle.format.specs.Keys.{as_signed, key_at}
 use Rattle.format.proofs.Numbers.Stores.{storing-done}
 use Rattle.plain.proofs.Chunks.{body_inside}
-use Rattle.plain.proofs.Turns.{values-end, value-more}
+use Rattle.plain.proofs.Turns.{values-end, value-more, front-filled}
 use Rattle.plain.proofs.PlainCodec.fill.Goals as goal
 
 pub loop-i-preserved : goal.loop-i-preserved
@@ -17,14 +19,17 @@ loop-i-preserved c =
     let a = c.args in
     let s = a.chunk.now in
     let key = c.of_bits.ensures ∙ ap as_signed c.load.ensures in
-    (omega arith, rw (to_z-of_z {w = w64} (record { sfits = c.of_bits.type_inv }), key) (value-more s a.header.start a.header.count l.i l.invariant.1 (omega arith)))
+    let under : l.i < a.header.count = omega (arith, c.loop-i-test.true, length-take-le a.header.count a.column.now c.requires.room) in
+    rw (to_z-of_z {w = w64} (record { sfits = c.of_bits.type_inv }), key) (value-more s a.header.start a.header.count l.i l.invariant under)
 
 pub returns : goal.returns
 unfolding body_values
 returns c =
     let l = c.loop-i in
     let a = c.args in
-    storing-done l.invariant.1 (values-end a.chunk.now _ a.header.count l.i (omega arith))
+    let s = a.chunk.now in
+    let over : a.header.count ≤ l.i = omega (arith, c.loop-i-test.false, length-take-le a.header.count a.column.now c.requires.room) in
+    front-filled s a.header.start a.header.count a.column.now c.requires.room (storing-done l.invariant (values-end s _ a.header.count l.i over))
 
 pub load-requires : goal.load-requires
-load-requires c = omega (arith, body_inside c.requires.passed)
+load-requires c = omega (arith, body_inside c.requires.passed, c.loop-i-test.true, length-take-le c.args.header.count c.args.column.now c.requires.room)

@@ -3,4 +3,4 @@ use Rattle.runs.specs.RunAt.{Running}
 use Rattle.runs.proofs.writing.end_from.Given as goal
 
 abbrev pub invariant-loop-end : goal.invariant-loop-end
-invariant-loop-end l = Running l.column l.start l.end
+invariant-loop-end l = Running l.values l.end

@@ -4,4 +4,4 @@ use Rattle.runs.specs.RunAt.{same_from}
 use Rattle.runs.proofs.writing.same_eight.Given as goal
 
 abbrev pub invariant-loop-k : goal.invariant-loop-k
-invariant-loop-k l = l.same ≡ same_from l.column l.start l.at l.k
+invariant-loop-k l = l.same ≡ same_from l.values l.at l.k

@@ -5,7 +5,7 @@ use Rattle.runs.specs.RunAt.{Running}
 use Rattle.runs.proofs.writing.skip_eights.Given as goal
 
 abbrev pub invariant-loop-end : goal.invariant-loop-end
-invariant-loop-end l = Running l.column l.start l.end
+invariant-loop-end l = Running l.values l.end
 
 abbrev pub decreases-loop-end : goal.decreases-loop-end
-decreases-loop-end l = length l.column - l.end
+decreases-loop-end l = length l.values - l.end
