@@ -12,7 +12,7 @@ use Rattle.format.specs.Outcome.{Outcome, refused, ok, check, ◌>>=◌, value_o
 use Rattle.format.specs.Answers.{stored_answer, stored}
 use Rattle.format.specs.Varint.{read_uvarint, uvarint_len}
 use Rattle.format.specs.Standalone.{uvarint_write_outcome, uvarint_write_answer, uvarint_write_output}
-use Rattle.format.specs.declared.Uvarint.{Uvarint}
+use Rattle.format.specs.Varint.{Uvarint}
 use Rattle.format.proofs.Codecs.Outcome.{both-passed, check-passed}
 use Rattle.format.proofs.Numbers.Uvarints.{length-uvarint_bytes}
 use Rattle.bench.specs.Rows.{row_values, row_bytes}

@@ -2,18 +2,14 @@
 -- speak of N and of two of its parts alone, whatever list of bytes these were loaded from: N may be the number of the bytes, or of the same bytes in reverse, so
 -- the laws serve fields read most significant first too.
 use mathlib.Core.Path.{◌≡◌, sym, ap, ap₂, ◌∙◌}
-use Prim.Native.Nat.{ℕ, ◌+◌, ◌-◌, ◌*◌, ◌/◌, ◌%◌, ◌^◌, ◌≤◌, ◌<◌}
-use native.Mathlib.Nat.{add-zero, mul-mod_left, mod-lt, div-add-mod', one-mul, mod-eq_of_lt}
+use Prim.Native.Nat.{ℕ, ◌+◌, ◌-◌, ◌*◌, ◌/◌, ◌%◌, ◌^◌, ◌≤◌}
+use native.Mathlib.Nat.{add-zero, mul-mod_left, mod-lt, div-add-mod'}
 use native.Mathlib.Omega.{arith}
-use lib.Pow.{pow-lt, pow_pos, field, mod-mod-pow, mod-pow-add, shl-shr, shr-shr}
+use lib.Pow.{pow_pos, field, mod-mod-pow, mod-pow-add, shl-shr, shr-shr}
 use lib.Bits.{bit_and, bit_or, and_mask, or_shifted_r}
 use Rattle.format.proofs.Numbers.Places.{pow-256}
 
 -- ---- masks and shifts
-
--- a single bit set
-pub one_shl : (w : ℕ) → w < 64 → 1 * 2 ^ w % 2 ^ 64 ≡ 2 ^ w
-one_shl w h = rw (one-mul (2 ^ w)) (mod-eq_of_lt (pow-lt h))
 
 pub masked : (x w : ℕ) {m : ℕ} → m ≡ 2 ^ w - 1 → bit_and x m ≡ x % 2 ^ w
 masked x w e = rw e (and_mask x w)

@@ -5,4 +5,5 @@ pub mod PackingLaws
 pub mod Packer
 pub mod Unpacker
 pub mod Calls
+pub mod Asking
 pub mod Blocks

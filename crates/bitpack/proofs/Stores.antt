@@ -1,5 +1,4 @@
--- Lists of stores: a front that a loop fills element by element, a run of bytes from a place on, and what a later part of the buffer still holds. A store is a
--- `set`; each law splits the list at the place.
+-- Lists of stores: a front that a loop fills element by element, and a run of bytes from a place on. A store is a `set`; each law splits the list at the place.
 use mathlib.Core.Path.{◌≡◌, sym, ap, ap₂, ◌∙◌}
 use Prim.Native.Nat.{ℕ, suc, ◌+◌, ◌-◌, ◌/◌, ◌%◌, ◌^◌, ◌≤◌, ◌<◌}
 use native.Mathlib.Numerals.{add-one}
@@ -28,17 +27,6 @@ module _ (f l : List ℕ) (k : ℕ) (e : length f ≡ k) where
       sets-eq g whole k room
       ∙ ap₂ (λ (a b : List ℕ). a ++ g ++ b) (take_at f (drop k l) k e)
       (ap₂ (λ (a b : ℕ). drop (a + b) whole) (sym e) eg ∙ drop-append-add f (drop k l) n ∙ drop-drop n k l)
-
-  module _ {o : List ℕ} (eo : o ≡ f ++ drop k l) where
-    -- past the front nothing changed
-    pub front-past : (n : ℕ) → k ≤ n → drop n o ≡ drop n l
-    front-past n h =
-        let en : k + (n - k) ≡ n = omega arith in
-        ap (λ (i : ℕ). drop i o) (sym en)
-        ∙ ap₂ (λ (i : ℕ) (r : List ℕ). drop (i + (n - k)) r) (sym e) eo
-        ∙ drop-append-add f (drop k l) (n - k)
-        ∙ drop-drop (n - k) k l
-        ∙ ap (λ (i : ℕ). drop i l) en
 
 -- ---- the bytes of a number
 

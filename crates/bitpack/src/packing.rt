@@ -2,15 +2,17 @@
 ghost use Rattle.std.specs.Prelude.{◌≡◌, ◌++◌, ◌≤◌, length, drop};
 ghost use Rattle.format.specs.Packing.{packed_len, packed};
 
-use crate::words::{mask, put_bytes};
+use crate::width::Width;
+use crate::words::put_bytes;
 use number::words::store;
 
 // acc holds the bits, fewer than 64, that are not stored yet; p bytes are stored.
-pub(crate) fn pack_into(vs: &[u64], w: usize, out: &mut [u8])
-    requires { (w ≤ 64) × (packed_len (length vs.now) w ≤ length out.old) }
-    ensures { out.new ≡ packed w vs.now ++ drop (packed_len (length vs.now) w) out.old }
+pub(crate) fn pack_into(vs: &[u64], width: Width, out: &mut [u8])
+    requires { packed_len (length vs.now) width.bits ≤ length out.old }
+    ensures { out.new ≡ packed width.bits vs.now ++ drop (packed_len (length vs.now) width.bits) out.old }
 {
-    let m = mask(w);
+    let m = width.mask();
+    let w = width.bits as usize;
     let mut acc: u64 = 0;
     let mut bits: usize = 0;
     let mut p: usize = 0;

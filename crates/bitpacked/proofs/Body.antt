@@ -2,13 +2,10 @@
 -- questions, and that a body that was passed lies inside the chunk.
 use mathlib.Core.Path.{◌≡◌, sym, ap, ap₂, ◌∙◌}
 use mathlib.Core.List.{List, ◌∷◌, map}
-use Prim.Native.Nat.{ℕ, ◌+◌, ◌^◌, ◌≤◌, ◌<◌}
-use native.Mathlib.Omega.{arith}
+use Prim.Native.Nat.{ℕ, ◌+◌, ◌≤◌}
 use lib.IntN.{ℤ}
 use lib.ListN.{length, length-map}
 use borrow.Author.Tests.{le-leb}
-use Rattle.format.specs.Answers.{count_of}
-use Rattle.format.specs.Standalone.{packed_len_answer}
 use Rattle.format.specs.Encodings.{max_chunk_elements}
 use Rattle.format.specs.Keys.{zigzag}
 use Rattle.format.specs.Width.{width}
@@ -21,9 +18,6 @@ use Rattle.format.specs.declared.encoding.Encoding.TheVariants.{BitPacked}
 use Rattle.format.specs.declared.Header.{Header}
 use Rattle.format.proofs.Codecs.Outcome.{both-passed}
 use Rattle.format.proofs.Lengths.Parts.{length-packed_body}
-use Rattle.format.proofs.Numbers.Packing.{packed_len-most}
-use Rattle.format.proofs.Numbers.Widths.{width-le}
-use Rattle.places.proofs.Blocks.{packed-counted}
 use Rattle.places.specs.Packed.{Inside}
 use Rattle.std.specs.Prelude.{Option}
 use Rattle.codec.specs.Valid.{Valid}
@@ -32,20 +26,9 @@ use Rattle.codec.proofs.Settling.{passed-inside}
 -- ---- writing
 
 module _ (column : List ℤ) {w : ℕ} (e : w ≡ width (largest (map zigzag column))) where
-  pub narrow : w ≤ 64
-  narrow = rw e (width-le _)
-
-  pub body-length : length (body_of BitPacked column) ≡ 1 + packed_len (length column) w
+  pub body_length : length (body_of BitPacked column) ≡ 1 + packed_len (length column) w
   unfolding body_of bit_packed_body
-  body-length = length-packed_body (map zigzag column) ∙ ap₂ (λ (n k : ℕ). 1 + packed_len n k) (length-map column zigzag) (sym e)
-
-  -- its packed bytes, and that they are few
-  module _ {n bytes : ℕ} (same : n ≡ length column) (few : n ≤ max_chunk_elements) (counted : bytes ≡ count_of (packed_len_answer n w)) where
-    pub body-measured : 1 + bytes ≡ length (body_of BitPacked column)
-    body-measured = omega (arith, counted, packed-counted n w few narrow, ap (λ (k : ℕ). packed_len k w) same, body-length)
-
-    pub body-short : bytes < 2 ^ 31
-    body-short = omega (arith, counted, packed-counted n w few narrow, packed_len-most n w narrow)
+  body_length = length-packed_body (map zigzag column) ∙ ap₂ (λ (n k : ℕ). 1 + packed_len n k) (length-map column zigzag) (sym e)
 
   pub body_is : w ∷ packed w (map zigzag column) ≡ body_of BitPacked column
   unfolding body_of bit_packed_body packed_body

@@ -1,2 +1,1 @@
-pub mod Widest
 pub mod Body

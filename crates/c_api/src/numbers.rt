@@ -1,4 +1,5 @@
-// Numbers: ZigZag, widths, and how long a varint is.
+// Numbers: ZigZag, widths, and how long a varint is. Each export, here and in the other files, has a name of the header's, so that those
+// which differ in a name alone stay as many.
 ghost use Rattle.std.specs.Prelude.{◌≡◌};
 ghost use Rattle.format.specs.Keys.{zigzag, unzigzag};
 ghost use Rattle.format.specs.Varint.{uvarint_len, varint_len};

@@ -11,8 +11,7 @@ use lib.Seq.{sets}
 use borrow.Author.Tests.{eqb-true}
 use Rattle.format.specs.Outcome.{Outcome, refused, ok, check, ◌>>=◌}
 use Rattle.format.specs.Encodings.{id_of, encoding_of, within, max_chunk_elements}
-use Rattle.format.specs.Varint.{read_uvarint, first_padded}
-use Rattle.format.specs.declared.Uvarint.{Uvarint}
+use Rattle.format.specs.Varint.{Uvarint, read_uvarint, first_padded}
 use Rattle.std.specs.Prelude.{None}
 use Rattle.format.specs.Answers.{stored, buffer_after}
 use Rattle.format.specs.Header.{named, read_id, read_header}

@@ -1,16 +1,23 @@
--- A packed body that was passed lies inside the chunk.
-use mathlib.Core.Path.{◌≡◌}
+-- What settles a body settles a reading of it; and a packed body that was passed lies inside the chunk.
+use mathlib.Core.Path.{◌≡◌, ap}
+use mathlib.Core.Bool.{Bool}
 use mathlib.Core.List.{List}
 use Prim.Native.Nat.{ℕ, ◌+◌, ◌-◌, ◌≤◌}
 use native.Mathlib.Omega.{arith}
 use lib.Dec.{leb, ltb}
 use lib.ListN.{length, get_or}
 use borrow.Author.Tests.{leb-true, ltb-true}
-use Rattle.format.specs.Outcome.{ok, check}
+use Rattle.format.specs.Outcome.{Outcome, ok, check}
 use Rattle.format.specs.Encodings.{max_chunk_elements}
 use Rattle.format.specs.Packing.{packed_len, width_at, packed_end}
+use Rattle.format.specs.Parts.{settled}
+use Rattle.format.specs.declared.Extent.{Extent}
 use Rattle.format.proofs.Codecs.Outcome.{both-passed, check-passed}
 use Rattle.places.specs.Packed.{Inside}
+
+-- where the body's answers are the same, so are the reading's
+pub settled_as : (strict : Bool) (s : List ℕ) (count room : ℕ) {answer asked : Outcome Extent} → answer ≡ asked → settled strict s count room answer ≡ settled strict s count room asked
+settled_as strict s count room e = ap (settled strict s count room) e
 
 -- a width byte and a packed body that were passed lie inside the chunk
 pub passed-inside : {s : List ℕ} {at count w end : ℕ} → count ≤ max_chunk_elements → width_at s at ≡ ok w → packed_end s (at + 1) w count ≡ ok end → Inside s at count

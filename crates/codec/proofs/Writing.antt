@@ -3,12 +3,13 @@
 use mathlib.Core.Path.{◌≡◌, refl, sym, ap, ap₂, ◌∙◌}
 use mathlib.Core.List.{List, ◌++◌}
 use Prim.Native.Nat.{ℕ, ◌+◌, ◌<◌, ◌≤◌}
-use native.Mathlib.Nat.{zero-add}
 use native.Mathlib.Omega.{arith}
 use lib.IntN.{ℤ}
 use lib.ListN.{length, length-append}
 use lib.Seq.{sets, length-sets}
 use borrow.Author.Tests.{le-leb, lt-leb}
+use Rattle.std.specs.Prelude.{Option, Some}
+use Rattle.std.specs.Option.{IsSome}
 use Rattle.format.specs.Outcome.{Outcome, ok, refused}
 use Rattle.format.specs.Encodings.{id_of, max_chunk_elements}
 use Rattle.format.specs.Header.{header_bytes, header_len}
@@ -18,18 +19,15 @@ use Rattle.format.specs.Write.{for_dictionary, write_checks, write_outcome, writ
 use Rattle.format.specs.declared.Encoding.{Encoding}
 use Rattle.format.proofs.Codecs.Encodings.{encoding_of-id, id-within}
 use Rattle.format.proofs.Codecs.Header.{length-header_bytes}
+use Rattle.format.proofs.Lengths.Exact.{length-chunk}
 use Rattle.format.proofs.Numbers.Stores.{sets-append, sets-stored}
 use Rattle.places.specs.Places.{fitting, laid, laid_end}
-
--- how long a chunk is
-pub length-chunk : (e : Encoding) (column : List ℤ) → length (chunk_of e column) ≡ header_len (length column) + length (body_of e column)
-unfolding chunk_of
-length-chunk e column = length-append (header_bytes (id_of e) (length column)) (body_of e column) ∙ ap (λ (n : ℕ). n + length (body_of e column)) (length-header_bytes (id_of e) (length column))
+use Rattle.places.proofs.Placing.{put_some}
 
 -- header and body, stored one after the other
 module _ (e : Encoding) (column : List ℤ) (output : List ℕ) {needed : ℕ} (measured : needed ≡ header_len (length column) + length (body_of e column))
-    (there : needed ≤ length output) {at : ℕ} {begun : List ℕ}
-    (header : (at ≡ laid_end (fitting (header_bytes (id_of e) (length column)) (length output)) 0)
+    (there : needed ≤ length output) {end : Option ℕ} {begun : List ℕ}
+    (header : (end ≡ laid_end (fitting (header_bytes (id_of e) (length column)) (length output)) 0)
     × (begun ≡ laid (fitting (header_bytes (id_of e) (length column)) (length output)) 0 output))
   where
     abbrev front : List ℕ
@@ -38,27 +36,32 @@ module _ (e : Encoding) (column : List ℤ) (output : List ℕ) {needed : ℕ} (
     long : length front ≡ header_len (length column)
     long = length-header_bytes (id_of e) (length column)
 
-    laid-front : (at ≡ length front) × (begun ≡ sets output 0 front)
+    laid-front : (end ≡ Some (0 + length front)) × (begun ≡ sets output 0 front)
     unfolding fitting
-    laid-front =
-        let h = rw (le-leb (length front) (length output) (omega (arith, long, measured, there))) at header in
-        (omega (arith, h.0), h.1)
+    laid-front = rw (le-leb (length front) (length output) (omega (arith, long, measured, there))) at header
 
-    -- the body has room after the header
-    pub body-room : at + length (body_of e column) ≤ length begun
-    body-room = omega (arith, laid-front.0, long, measured, there, ap length laid-front.1, length-sets output 0 front)
+    pub header-there : IsSome end
+    header-there = put_some 0 front laid-front.0
 
-    -- and ends where the chunk does
-    pub body_end : at + length (body_of e column) ≡ needed
-    body_end = omega (arith, laid-front.0, long, measured)
+    module _ {at : ℕ} (found : end ≡ Some at) where
+      after : at ≡ 0 + length front
+      after = let both : Some at ≡ Some (0 + length front) = sym found ∙ laid-front.0 in cc
 
-    pub chunk-stored : {out : List ℕ} → out ≡ sets begun at (body_of e column) → out ≡ stored (chunk_of e column) output
-    unfolding chunk_of
-    chunk-stored done =
-        done
-        ∙ ap₂ (λ (l : List ℕ) (i : ℕ). sets l i (body_of e column)) laid-front.1 (laid-front.0 ∙ sym (zero-add (length front)))
-        ∙ sym (sets-append front (body_of e column) output 0)
-        ∙ sets-stored (front ++ body_of e column) output (omega (arith, length-append front (body_of e column), long, measured, there))
+      -- the body has room after the header
+      pub body-room : at + length (body_of e column) ≤ length begun
+      body-room = omega (arith, after, long, measured, there, ap length laid-front.1, length-sets output 0 front)
+
+      -- and ends where the chunk does
+      pub body_end : at + length (body_of e column) ≡ needed
+      body_end = omega (arith, after, long, measured)
+
+      pub chunk-stored : {out : List ℕ} → out ≡ sets begun at (body_of e column) → out ≡ stored (chunk_of e column) output
+      unfolding chunk_of
+      chunk-stored done =
+          done
+          ∙ ap₂ (λ (l : List ℕ) (i : ℕ). sets l i (body_of e column)) laid-front.1 after
+          ∙ sym (sets-append front (body_of e column) output 0)
+          ∙ sets-stored (front ++ body_of e column) output (omega (arith, length-append front (body_of e column), long, measured, there))
 
 module _ (e : Encoding) (column : List ℤ) (room : ℕ) (output : List ℕ) where
   -- an answer to writing, and the output after it

@@ -1,11 +1,12 @@
-// Questions that more than one body is asked, and those that come after the body's.
+// Questions that more than one body is asked, and those that come after the body's. The chunk and what was read of it are two parameters: a
+// struct of both is no plainer, since only the second changes, and it is what is answered.
 ghost use Rattle.std.specs.Prelude.{◌≡◌, ◌≤◌, IfOk};
 ghost use Rattle.format.specs.Answers.{outcome_of};
 ghost use Rattle.format.specs.Varint.{first_padded, validate_uvarints};
 ghost use Rattle.format.specs.Parts.{packed_extent, settled};
 
-use format::{Extent, Kind, Refusal};
-use places::block::packed_bytes;
+use bitpack::width::Width;
+use format::{Extent, Kind, Refusal, Uvarint};
 
 // The first padded varint, when the one at `at` is read too.
 pub fn first_padded(padded: Option<usize>, at: usize, unpadded: bool) -> Option<usize>
@@ -14,53 +15,48 @@ pub fn first_padded(padded: Option<usize>, at: usize, unpadded: bool) -> Option<
     padded.or((!unpadded).then_some(at))
 }
 
-// n varints in a row, from `from` on.
-#[tactic(auto, using(crate::proofs::Rows::row_next, crate::proofs::Rows::row_end))]
-pub fn settle_uvarints(
-    chunk: &[u8],
-    from: usize,
-    n: usize,
-    before: Option<usize>,
-) -> Result<Extent, Refusal>
-    ensures { outcome_of result ≡ validate_uvarints chunk.now from n before }
+// What was read before, and a varint that begins where it ends.
+pub fn with_varint(before: Extent, read: Uvarint) -> Extent
+    ensures { result ≡ record { end = read.next; padded = first_padded before.padded before.end read.unpadded } }
 {
-    let mut at = from;
-    let mut padded = before;
-    for _ in 0..n {
-        let read = varint::read_uvarint(chunk, at)?;
-        padded = first_padded(padded, at, read.unpadded);
-        at = read.next;
+    Extent {
+        end: read.next,
+        padded: first_padded(before.padded, before.end, read.unpadded),
     }
-    Ok(Extent { end: at, padded })
 }
 
-// A width byte at `at`, and a packed body of `count` values after it.
+// n varints in a row, after what was read before.
+#[tactic(auto, using(crate::proofs::Rows::row_next, crate::proofs::Rows::row_end))]
+pub fn settle_uvarints(chunk: &[u8], before: Extent, n: usize) -> Result<Extent, Refusal>
+    ensures { outcome_of result ≡ validate_uvarints chunk.now before.end n before.padded }
+{
+    let mut read = before;
+    for _ in 0..n {
+        read = with_varint(read, varint::read_uvarint(chunk, read.end)?);
+    }
+    Ok(read)
+}
+
+// A width byte after what was read before, and a packed body of `count` values after it. Question 21 comes before there is a width byte, 10,
+// and 12 after it, so that `bitpack`'s asking of 21 and 12 in one is no plainer here.
 #[tactic(auto, unfolding(format::specs::Parts::packed_extent, format::specs::Packing::width_at, format::specs::Packing::packed_end, format::specs::Standalone::packed_len_answer))]
-pub fn settle_packed(
-    chunk: &[u8],
-    at: usize,
-    count: usize,
-    padded: Option<usize>,
-) -> Result<Extent, Refusal>
-    ensures { outcome_of result ≡ packed_extent chunk.now at count padded }
+pub fn settle_packed(chunk: &[u8], before: Extent, count: usize) -> Result<Extent, Refusal>
+    ensures { outcome_of result ≡ packed_extent chunk.now before.end count before.padded }
 {
     if count > format::limits::MAX_CHUNK_ELEMENTS {
         return Err(Kind::ColumnAboveLimit.at(0));
     }
-    let Some(&width) = chunk.get(at) else {
-        return Err(Kind::NoWidth.at(at));
+    let Some(&width) = chunk.get(before.end) else {
+        return Err(Kind::NoWidth.at(before.end));
     };
-    if width > 64 {
-        return Err(Kind::WidthAbove64.at(0));
-    }
-    let needed = packed_bytes(count, width as u32);
-    let rest = chunk.len() - at - 1;
-    if rest < needed {
-        return Err(Kind::PackedCut.at(rest));
+    let needed = Width::new(u32::from(width))?.packed_len(count);
+    let packed = &chunk[before.end + 1..];
+    if packed.len() < needed {
+        return Err(Kind::PackedCut.at(packed.len()));
     }
     Ok(Extent {
-        end: at + 1 + needed,
-        padded,
+        end: before.end + 1 + needed,
+        ..before
     })
 }
 

@@ -1,7 +1,6 @@
 // The chunk's header: id, version, count.
 ghost use Rattle.std.specs.Prelude.{◌≡◌, ◌≤◌, IfOk, length};
 ghost use Rattle.format.specs.Encodings.{id_of, max_chunk_elements};
-ghost use Rattle.format.specs.Encodings as Encodings;
 ghost use Rattle.format.specs.Answers.{outcome_of};
 ghost use Rattle.format.specs.Header.{header_bytes, header_len, named, read_header};
 ghost use Rattle.format.specs.Parts.{peeked};
@@ -19,24 +18,17 @@ pub fn header_len(count: usize) -> usize
     2 + varint::uvarint_len(count as u64)
 }
 
-// Stores a header at the front of `out` and answers where it ends; where it does not fit, nothing, and 0.
-pub fn put_header(encoding: Encoding, count: usize, out: &mut [u8]) -> usize
+// Stores a header at the front of `out` and answers where it ends; where it does not fit, it stores nothing and answers none.
+pub fn put_header(encoding: Encoding, count: usize, out: &mut [u8]) -> Option<usize>
     ensures value { result ≡ laid_end (fitting (header_bytes (id_of encoding) count) (length out.old)) 0 }
     ensures out_after { out.new ≡ laid (fitting (header_bytes (id_of encoding) count) (length out.old)) 0 out.old }
 {
     if out.len() < header_len(count) {
-        return 0;
+        return None;
     }
     out[0] = encoding.id();
     out[1] = CODEC_VERSION;
     put_uvarint(count as u64, out, 2)
-}
-
-// Is n from low to high?
-fn within(low: u32, high: u32, n: u32) -> bool
-    ensures { result ≡ Encodings.within low high n }
-{
-    low <= n && n <= high
 }
 
 // The encoding that a chunk's first byte says: the first questions of a reading that names none.
@@ -47,33 +39,32 @@ pub fn peek_encoding(chunk: &[u8]) -> Result<Encoding, Refusal>
     let Some(&id) = chunk.first() else {
         return Err(Kind::UnknownId.at(0));
     };
-    if !within(1, 9, id as u32) {
+    if !(1..=9).contains(&id) {
         return Err(Kind::UnknownId.at(0));
     }
-    let encoding = Encoding::try_from(id as u32)?;
+    let encoding = Encoding::try_from(u32::from(id))?;
     if chunk.len() < 2 {
         return Err(Kind::NoHeader.at(0));
     }
     Ok(encoding)
 }
 
-// Reads the header of a chunk by a reading that names its encoding.
-#[tactic(auto, unfolding(format::specs::Header::read_header, format::specs::Header::read_id))]
+// Reads the header of a chunk by a reading that names its encoding. The name may be no encoding's number, which is a question of its own:
+// an `Encoding` in its place would ask more of a caller.
+#[tactic(auto, unfolding(format::specs::Header::read_header, format::specs::Header::read_id, format::specs::Parts::encoding_named))]
 pub fn read_header(chunk: &[u8], name: u32) -> Result<Header, Refusal>
     ensures told { outcome_of result ≡ read_header (named name) chunk.now }
     ensures found { IfOk result (λ h. (h.count ≤ max_chunk_elements) × (h.start ≤ length chunk.now)) }
 {
-    if !within(1, 7, name) {
-        return Err(Kind::NotAnIntegerEncoding.at(0));
-    }
+    Encoding::try_from(name)?;
     if chunk.len() < 2 {
         return Err(Kind::NoHeader.at(0));
     }
     let id = chunk[0];
-    if !within(1, 9, id as u32) {
+    if !(1..=9).contains(&id) {
         return Err(Kind::UnknownId.at(0));
     }
-    if id as u32 != name {
+    if u32::from(id) != name {
         return Err(Kind::OtherEncoding.at(0));
     }
     if chunk[1] != CODEC_VERSION {

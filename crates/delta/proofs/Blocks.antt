@@ -8,18 +8,16 @@ use lib.IntN.{ℤ}
 use lib.ListN.{length, get_or}
 use Rattle.format.specs.Outcome.{refused, ok}
 use Rattle.format.specs.Keys.{zigzag, unzigzag}
-use Rattle.format.specs.Varint.{read_uvarint}
+use Rattle.format.specs.Varint.{read_uvarint, Uvarint}
 use Rattle.format.specs.Packing.{packed_len, packed_values}
-use Rattle.format.specs.Standalone.{read_varint}
+use Rattle.format.specs.Standalone.{read_varint, Varint}
 use Rattle.format.specs.Delta.{block_count, block_deltas}
-use Rattle.format.specs.declared.Uvarint.{Uvarint}
-use Rattle.format.specs.declared.Varint.{Varint}
 use Rattle.format.proofs.Numbers.Keys.{unzigzag-zigzag}
 use Rattle.format.proofs.Codecs.Counts.{uvarint-again}
 use Rattle.varint.proofs.Answers.{signed-read, signed-refused}
 use Rattle.delta.specs.Summed.{from_least, summed}
 use Rattle.delta.specs.There.{BlocksThere}
-use Rattle.delta.proofs.Sums.{Summing, summing-none, summing-part, summing-done}
+use Rattle.delta.proofs.Sums.{Summing, summing-part, summing-done}
 use Rattle.delta.proofs.Parts.{length-packed_deltas}
 use Rattle.delta.proofs.There.{block_count-more, block_count-none, next-there, read-there}
 
@@ -35,9 +33,6 @@ pub record Blocks (s : List ℕ) (size from deltas : ℕ) (l column : List ℤ) 
   pub sums : Summing (block_deltas s size from (block_count size deltas) deltas) l 0 (block_deltas s size at (block_count size left) left) column last
   pub there : BlocksThere s size at left
   pub count : last + left ≡ deltas
-
-pub blocks-none : (s : List ℕ) (size from deltas : ℕ) (l : List ℤ) → BlocksThere s size from deltas → Blocks s size from deltas l l from 0 deltas
-blocks-none s size from deltas l b = record { sums = summing-none; there = b; count = omega arith }
 
 module _ (s : List ℕ) (size from deltas : ℕ) {l column : List ℤ} (at last left : ℕ) (some : 1 ≤ size) (b : Blocks s size from deltas l column at last left) where
   module _ {low : Varint} (more : 1 ≤ left) (r : read_varint s at ≡ ok low) where
@@ -76,8 +71,8 @@ module _ (s : List ℕ) (size from deltas : ℕ) {l column : List ℤ} (at last 
         }
 
   -- the least delta was read
-  pub blocks-read : {number offset : ℕ} → 1 ≤ left → read_varint s at ≡ refused number offset → ⊥
-  blocks-read more r = read-there s size at left some more b.there (signed-refused s at r)
+  pub blocks-read : 1 ≤ left → (number offset : ℕ) → read_varint s at ≡ refused number offset → ⊥
+  blocks-read more number offset r = read-there s size at left some more b.there (signed-refused s at r)
 
   -- nothing is left
   pub blocks-done : left ≡ 0 → column ≡ summed l 0 (block_deltas s size from (block_count size deltas) deltas)

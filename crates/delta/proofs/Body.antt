@@ -1,7 +1,6 @@
 -- A body that was asked for and found: its first value and its block size are read again, its blocks are there, and the first value with the sums behind it are
 -- the values of the definition.
-use mathlib.Core.Path.{◌≡◌, refl, sym, ap, ◌∙◌}
-use mathlib.Core.Bool.{Bool, true, false, ◌&&◌}
+use mathlib.Core.Path.{◌≡◌, sym, ap, ◌∙◌}
 use mathlib.Core.List.{List, ◌∷◌}
 use Prim.Native.Nat.{ℕ, suc, ◌-◌, ◌^◌, ◌≤◌, ◌<◌}
 use native.Mathlib.Omega.{arith}
@@ -10,14 +9,13 @@ use lib.IntN.{ℤ, pos}
 use lib.ListN.{length, set}
 use lib.Seq.{sets, get_or-set_same}
 use borrow.Author.Tests.{leb-true}
+use Rattle.std.proofs.lemmas.Bool.{and_parts}
 use Rattle.format.specs.Outcome.{refused, ok, check}
 use Rattle.format.specs.Answers.{stored}
 use Rattle.format.specs.Encodings.{within}
-use Rattle.format.specs.Standalone.{read_varint}
+use Rattle.format.specs.Standalone.{read_varint, Varint}
 use Rattle.format.specs.Delta.{block_count, validate_delta, block_deltas, prefix_sums, delta_values}
-use Rattle.format.specs.Varint.{read_uvarint}
-use Rattle.format.specs.declared.Uvarint.{Uvarint}
-use Rattle.format.specs.declared.Varint.{Varint}
+use Rattle.format.specs.Varint.{read_uvarint, Uvarint}
 use Rattle.format.proofs.Numbers.Keys.{unzigzag-zigzag}
 use Rattle.format.proofs.Numbers.Stores.{sets-stored}
 use Rattle.format.proofs.Codecs.Outcome.{both-passed, check-passed}
@@ -25,11 +23,6 @@ use Rattle.format.proofs.Codecs.Counts.{uvarint-again, delta-count}
 use Rattle.varint.proofs.Answers.{signed-read, signed-refused}
 use Rattle.delta.specs.Summed.{summed}
 use Rattle.delta.specs.There.{BlocksThere, BodyThere}
-
--- where two tests hold, the first does
-and_left : (t u : Bool) → (t && u) ≡ true → t ≡ true
-and_left true u h = refl
-and_left false u h = h
 
 module _ (s : List ℕ) (start count : ℕ) (some : 0 < count) (b : BodyThere s start count) where
   one_more : count ≡ suc (count - 1)
@@ -39,18 +32,18 @@ module _ (s : List ℕ) (start count : ℕ) (some : 0 < count) (b : BodyThere s 
   passed = ap (λ (n : ℕ). validate_delta s start n b.padded) (sym one_more) ∙ b.passed
 
   -- the first value was read,
-  pub first-there : {number offset : ℕ} → read_varint s start ≡ refused number offset → ⊥
+  pub first-there : (number offset : ℕ) → read_varint s start ≡ refused number offset → ⊥
   unfolding validate_delta
-  first-there r =
+  first-there number offset r =
       let h = rw (signed-refused s start r) at passed in
       let z : ◌≡◌ {A = ℕ} 0 1 = cc in
       omega arith
 
   module _ {first : Varint} (f : read_varint s start ≡ ok first) where
     -- and the block size,
-    pub size-there : {number offset : ℕ} → read_uvarint s first.next ≡ refused number offset → ⊥
+    pub size-there : (number offset : ℕ) → read_uvarint s first.next ≡ refused number offset → ⊥
     unfolding validate_delta
-    size-there r =
+    size-there number offset r =
         let h = rw (signed-read s start f, r) at passed in
         let z : ◌≡◌ {A = ℕ} 0 1 = cc in
         omega arith
@@ -61,7 +54,7 @@ module _ (s : List ℕ) (start count : ℕ) (some : 0 < count) (b : BodyThere s 
       unfolding validate_delta
       blocks-there =
           both-passed (check (within 1 (2 ^ 20) size.value) 19 size.next) _ (rw (signed-read s start f, r) at passed) λ _ one h.
-          (leb-true 1 size.value (and_left (leb 1 size.value) _ (check-passed _ 19 _ one)), record { padded = _; extent = b.extent; passed = h })
+          (leb-true 1 size.value (and_parts (leb 1 size.value) _ (check-passed _ 19 _ one)).0, record { padded = _; extent = b.extent; passed = h })
 
       -- the values
       values-are : delta_values s start count ≡ first.value ∷ prefix_sums first.value (block_deltas s size.value size.next (block_count size.value (count - 1)) (count - 1))

@@ -10,8 +10,7 @@ use Rattle.format.specs.Keys.{Key, zigzag}
 use Rattle.format.specs.Varint.{uvarint_value}
 use Rattle.format.specs.Folds.{least, deltas}
 use Rattle.format.specs.Outcome.{ok}
-use Rattle.format.specs.Standalone.{read_varint}
-use Rattle.format.specs.declared.Varint.{Varint}
+use Rattle.format.specs.Standalone.{read_varint, Varint}
 use Rattle.format.proofs.Numbers.Keys.{unzigzag-zigzag, unzigzag-key}
 use Rattle.format.proofs.Numbers.Columns.{deltas-keys}
 use Rattle.format.proofs.Numbers.Extremes.{least-key}

@@ -6,9 +6,11 @@ use Prim.Native.Nat.{ℕ, zero, suc, ◌+◌, ◌-◌, ◌*◌, ◌≤◌, ◌<�
 use native.Mathlib.Decide.{dec_le}
 use native.Mathlib.Omega.{arith}
 use lib.Dec.{lit≤}
-use lib.IntN.{ℤ, pos}
-use lib.ListN.{length, get_or, take, drop, length-append, length-take, length-drop, drop_of_length-le}
+use lib.IntN.{ℤ}
+use lib.ListN.{length, take, drop, length-append, length-take, length-drop, drop_of_length-le}
 use lib.Seq.{take_all, take-length, drop-length}
+use Rattle.std.specs.Prelude.{Some, None}
+use Rattle.std.specs.List.{slice_get, flat_map}
 use Rattle.format.specs.Keys.{gap}
 use Rattle.format.specs.Varint.{uvarint_len, varint_len, uvarint_bytes, varint_bytes}
 use Rattle.format.specs.Width.{width}
@@ -18,10 +20,11 @@ use Rattle.format.specs.Delta.{delta_block_size, block_count, block_bytes, block
 use Rattle.format.proofs.Numbers.Columns.{deltas-keys}
 use Rattle.format.proofs.Numbers.Keys.{length-varint_bytes, varint_len-le}
 use Rattle.format.proofs.Numbers.Uvarints.{length-uvarint_bytes}
-use Rattle.format.proofs.Numbers.Widths.{width-le, uvarint_len-le}
+use Rattle.format.proofs.Numbers.Widths.{width-le, uvarint_len_le}
 use Rattle.format.proofs.Numbers.Packing.{packed_len-most}
 use Rattle.format.proofs.Lengths.DeltaLength.{block_len, blocks_len, length-block, length-blocks}
-use Rattle.delta.specs.Written.{blocks_of}
+use Rattle.delta.specs.Written.{blocks_of, parts, parts_of, to_come}
+use Rattle.delta.specs.declared.writing.Windows.{Windows}
 use Rattle.delta.proofs.There.{block_count-more, block_count-none}
 use Rattle.delta.proofs.Windows.{length-deltas, first-deltas, later-deltas}
 
@@ -41,27 +44,65 @@ module _ (l : List ℤ) {n : ℕ} (e : n ≡ min (length l) 128) where
           )
 
 module _ (ds : List ℤ) where
-  pub blocks-empty : length ds ≡ 0 → blocks_of ds ≡ []
-  unfolding blocks_of blocks_bytes
-  blocks-empty e = ap (λ (k : ℕ). blocks_bytes k ds) (block_count-none 128 (length ds) (lit≤ tt) e)
+  parts-empty : length ds ≡ 0 → parts_of ds ≡ []
+  unfolding parts_of parts
+  parts-empty e = ap (λ (k : ℕ). parts k ds) (block_count-none 128 (length ds) (lit≤ tt) e)
 
-  pub blocks-next : (n : ℕ) → 1 ≤ length ds → n ≡ min (length ds) 128 → blocks_of ds ≡ block_bytes (take n ds) ++ blocks_of (drop n ds)
-  unfolding blocks_of blocks_bytes
-  blocks-next n some e =
+  parts-next : (n : ℕ) → 1 ≤ length ds → n ≡ min (length ds) 128 → parts_of ds ≡ take n ds ∷ parts_of (drop n ds)
+  unfolding parts_of parts
+  parts-next n some e =
       let k : block_count 128 (length ds) ≡ suc (block_count 128 (length (drop n ds))) =
       block_count-more 128 (length ds) (lit≤ tt) some ∙ ap (λ (m : ℕ). suc (block_count 128 m)) (ap (λ (m : ℕ). length ds - m) (sym e) ∙ sym (length-drop n ds)) in
-      ap (λ (m : ℕ). blocks_bytes m ds) k
-      ∙ ap₂ (λ (a b : List ℤ). block_bytes a ++ blocks_bytes (block_count 128 (length (drop n ds))) b) (cut ds e).0 (cut ds e).1
+      ap (λ (m : ℕ). parts m ds) k
+      ∙ ap₂ (λ (a b : List ℤ). a ∷ parts (block_count 128 (length (drop n ds))) b) (cut ds e).0 (cut ds e).1
 
--- Of a walk along the column: the deltas of the rest are those of its next window, and those after them.
-pub next-window : (rest : List ℤ) (n : ℕ) → 1 < length rest → n ≡ min (length rest - 1) 128
-    → blocks_of (deltas rest) ≡ block_bytes (deltas (take (n + 1) rest)) ++ blocks_of (deltas (drop n rest))
-next-window rest n h e =
-    blocks-next (deltas rest) n (omega (arith, length-deltas rest)) (e ∙ ap (λ (k : ℕ). min k 128) (sym (length-deltas rest)))
-    ∙ ap₂ (λ (a b : List ℤ). block_bytes a ++ blocks_of b) (sym (first-deltas rest n)) (sym (later-deltas rest n))
+-- the bytes of blocks are those of each
+bytes-of-parts : (k : ℕ) (ds : List ℤ) → blocks_bytes k ds ≡ flat_map block_bytes (parts k ds)
+unfolding blocks_bytes parts
+bytes-of-parts zero ds = refl
+bytes-of-parts (suc k) ds = ap (λ (l : List ℕ). block_bytes (take 128 ds) ++ l) (bytes-of-parts k (drop 128 ds))
 
-pub no-window : (rest : List ℤ) → length rest ≤ 1 → blocks_of (deltas rest) ≡ []
-no-window rest h = blocks-empty (deltas rest) (omega (arith, length-deltas rest))
+blocks-are : (ds : List ℤ) → blocks_of ds ≡ flat_map block_bytes (parts_of ds)
+unfolding blocks_of parts_of
+blocks-are ds = bytes-of-parts (block_count 128 (length ds)) ds
+
+-- ---- a walk along the windows of a column
+
+module _ (w : Windows) where
+  -- no window is left,
+  pub none_left : length w.0.now ≤ 1 → to_come w ≡ []
+  unfolding to_come
+  none_left h = parts-empty (deltas w.0.now) (omega (arith, length-deltas w.0.now))
+
+  -- and so no block
+  pub no_block : to_come w ≡ [] → blocks_of (deltas w.0.now) ≡ []
+  unfolding to_come
+  no_block e = blocks-are (deltas w.0.now) ∙ ap (flat_map block_bytes) e
+
+  module _ (rest : Windows) where
+    -- one is taken: its deltas are those of the next block
+    pub window_taken : (n : ℕ) → 2 ≤ length w.0.now → n ≡ min (length w.0.now - 1) 128 → rest.0.now ≡ drop n w.0.now
+        → to_come w ≡ deltas (take (n + 1) w.0.now) ∷ to_come rest
+    unfolding to_come
+    window_taken n h e r =
+        parts-next (deltas w.0.now) n (omega (arith, length-deltas w.0.now)) (e ∙ ap (λ (k : ℕ). min k 128) (sym (length-deltas w.0.now)))
+        ∙ ap₂ (λ (a b : List ℤ). a ∷ parts_of b) (sym (first-deltas w.0.now n)) (sym (later-deltas w.0.now n) ∙ ap deltas (sym r))
+
+    pub fewer : (n : ℕ) → 2 ≤ length w.0.now → n ≡ min (length w.0.now - 1) 128 → rest.0.now ≡ drop n w.0.now
+        → length (to_come rest) < length (to_come w)
+    fewer n h e r = omega (arith, ap length (window_taken n h e r))
+
+    pub block_taken : {ds : List ℤ} → to_come w ≡ ds ∷ to_come rest → blocks_of (deltas w.0.now) ≡ block_bytes ds ++ blocks_of (deltas rest.0.now)
+    unfolding to_come
+    block_taken {ds} e =
+        blocks-are (deltas w.0.now) ∙ ap (flat_map block_bytes) e ∙ ap (λ (l : List ℕ). block_bytes ds ++ l) (sym (blocks-are (deltas rest.0.now)))
+
+    pub block_counted : {ds : List ℤ} → to_come w ≡ ds ∷ to_come rest
+        → length (blocks_of (deltas w.0.now)) ≡ length (block_bytes ds) + length (blocks_of (deltas rest.0.now))
+    block_counted {ds} e = ap length (block_taken e) ∙ length-append (block_bytes ds) (blocks_of (deltas rest.0.now))
+
+  pub none_counted : to_come w ≡ [] → length (blocks_of (deltas w.0.now)) ≡ 0
+  none_counted e = ap length (no_block e)
 
 -- ---- lengths
 
@@ -85,36 +126,35 @@ blocks-most zero ds = omega arith
 blocks-most (suc k) ds =
     omega (arith, block-most (take 128 ds), blocks-most k (drop 128 ds), length-take 128 ds, length-drop 128 ds)
 
-pub blocks-limit : (column : List ℤ) → length (blocks_of (deltas column)) ≤ 11 + 9 * length (deltas column)
+pub blocks_limit : (column : List ℤ) → length (blocks_of (deltas column)) ≤ 11 + 9 * length column
 unfolding blocks_of block_count
-blocks-limit column =
+blocks_limit column =
     let ds : List ℤ = deltas column in
-    omega (arith, length-blocks (block_count 128 (length ds)) ds (deltas-keys column), blocks-most (block_count 128 (length ds)) ds)
+    omega (arith, length-blocks (block_count 128 (length ds)) ds (deltas-keys column), blocks-most (block_count 128 (length ds)) ds, length-deltas column)
 
 -- ---- the body
 
-pub body-empty : (column : List ℤ) → length column ≡ 0 → delta_body column ≡ []
+pub body-empty : (column : List ℤ) → None ≡ slice_get column 0 → delta_body column ≡ []
 unfolding delta_body
 body-empty [] e = refl
-body-empty (v ∷ vs) e = absurd (omega arith)
+body-empty (v ∷ vs) e = cc
 
-pub body-parts : (column : List ℤ) → 0 < length column
-    → delta_body column ≡ varint_bytes (get_or column 0 (pos 0)) ++ (uvarint_bytes delta_block_size ++ blocks_of (deltas column))
+pub body-parts : (column : List ℤ) {first : ℤ} → Some first ≡ slice_get column 0
+    → delta_body column ≡ varint_bytes first ++ (uvarint_bytes delta_block_size ++ blocks_of (deltas column))
 unfolding delta_body blocks_of
-body-parts [] h = absurd (omega arith)
-body-parts (v ∷ vs) h = refl
+body-parts [] e = cc
+body-parts (v ∷ vs) {first} e = let same : first ≡ v = cc in rw same
 
-pub body-length : (column : List ℤ) → 0 < length column
-    → length (delta_body column) ≡ varint_len (get_or column 0 (pos 0)) + uvarint_len delta_block_size + length (blocks_of (deltas column))
-body-length column h =
-    let first : List ℕ = varint_bytes (get_or column 0 (pos 0)) in
+pub body-length : (column : List ℤ) {first : ℤ} → Some first ≡ slice_get column 0
+    → length (delta_body column) ≡ varint_len first + uvarint_len delta_block_size + length (blocks_of (deltas column))
+body-length column {first} e =
     let rest : List ℕ = uvarint_bytes delta_block_size ++ blocks_of (deltas column) in
-    ap length (body-parts column h)
+    ap length (body-parts column e)
     ∙ omega (
       arith,
-      length-append first rest,
+      length-append (varint_bytes first) rest,
       length-append (uvarint_bytes delta_block_size) (blocks_of (deltas column)),
-      length-varint_bytes (get_or column 0 (pos 0)),
+      length-varint_bytes first,
       length-uvarint_bytes delta_block_size,
     )
 
@@ -123,9 +163,8 @@ body-limit [] = omega (arith, ap length (body-empty [] refl))
 body-limit (v ∷ vs) =
     omega (
       arith,
-      body-length (v ∷ vs) (omega arith),
+      body-length (v ∷ vs) refl,
       varint_len-le v,
-      uvarint_len-le delta_block_size,
-      blocks-limit (v ∷ vs),
-      length-deltas (v ∷ vs),
+      uvarint_len_le delta_block_size,
+      blocks_limit (v ∷ vs),
     )

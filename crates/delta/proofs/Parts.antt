@@ -10,7 +10,7 @@ use Rattle.format.proofs.Codecs.Counts.{length-packed_values}
 use Rattle.delta.specs.Summed.{from_least}
 
 -- as many deltas as offsets
-length-from_least : (low : ℤ) (offsets : List ℕ) → length (from_least low offsets) ≡ length offsets
+pub length-from_least : (low : ℤ) (offsets : List ℕ) → length (from_least low offsets) ≡ length offsets
 unfolding from_least
 length-from_least low offsets = length-map offsets (λ n. wrapping_add low (pos n))
 

@@ -1,6 +1,6 @@
 -- How many blocks there are, one by one; and blocks that were asked for and found: the least delta's varint is read again, the width is at most 64, the packed bytes
 -- are there, and so are the blocks after them. Each of these is an answer among those that `validate_blocks` was given.
-use mathlib.Core.Path.{◌≡◌}
+use mathlib.Core.Path.{◌≡◌, sym}
 use mathlib.Core.List.{List}
 use Prim.Native.Nat.{ℕ, suc, ◌+◌, ◌-◌, ◌/◌, ◌≤◌, ◌<◌, min}
 use native.Mathlib.Nat.{add-div_right, div-eq_of_lt}
@@ -8,14 +8,24 @@ use native.Mathlib.Decide.{dec_le}
 use native.Mathlib.Omega.{arith}
 use lib.Dec.{leb, ltb}
 use lib.ListN.{length, get_or}
+use borrow.Author.Rules.{rules}
 use borrow.Author.Tests.{leb-true, ltb-true}
-use Rattle.format.specs.Outcome.{refused, ok, check}
-use Rattle.format.specs.Varint.{read_uvarint, first_padded}
-use Rattle.format.specs.declared.Uvarint.{Uvarint}
+use Rattle.std.specs.Prelude.{Result, Ok, Err}
+use Rattle.std.specs.Result.{IsOk}
+use Rattle.format.specs.Outcome.{Outcome, refused, ok, check}
+use Rattle.format.specs.Answers.{outcome_of}
+use Rattle.format.specs.declared.refusals.Refusal.{Refusal}
+use Rattle.format.specs.Varint.{read_uvarint, first_padded, Uvarint}
 use Rattle.format.specs.Packing.{packed_len, width_at, packed_end}
 use Rattle.format.specs.Delta.{block_count, validate_blocks}
 use Rattle.format.proofs.Codecs.Outcome.{both-passed, check-passed}
 use Rattle.delta.specs.There.{BlocksThere}
+
+-- ---- what was read before is read again
+
+pub is_read : {A : Type 0} (r : Result A Refusal) {o : Outcome A} → outcome_of r ≡ o → ((number offset : ℕ) → o ≡ refused number offset → ⊥) → IsOk r
+is_read (Ok v) e there = search rules
+is_read (Err refusal) e there = absurd (there _ _ (sym e))
 
 -- ---- how many blocks there are
 

@@ -1,39 +1,27 @@
 // Values stored in the column, by the deltas of blocks that were read before.
-ghost use Rattle.std.specs.Prelude.{◌≡◌, ◌+◌, ◌≤◌, ◌<◌, length, get_or};
+ghost use Rattle.std.specs.Prelude.{◌≡◌, ◌+◌, ◌≤◌, ◌<◌, length};
 ghost use Rattle.format.specs.Encodings.{max_chunk_elements};
-ghost use Rattle.format.specs.Packing.{packed_len, packed_values};
 ghost use Rattle.format.specs.Answers.{stored};
 ghost use Rattle.format.specs.Delta.{block_count, block_deltas, delta_values};
 ghost use Rattle.delta.specs.Summed.{from_least, summed};
 ghost use Rattle.delta.specs.There.{BlocksThere, BodyThere};
-ghost use Rattle.places.specs.Packed.{Inside};
+ghost use Rattle.places.specs.Blocks.{to_come};
 
 use crate::running::RunningSum;
-use format::Header;
-use places::block::packed_bytes;
+use codec::chunk::Body;
+use places::block::Blocks;
 use places::unpacked::fill_by;
 
-// The values of a block of n deltas, whose width byte is at `start`, behind the value at `from`; answers where the block ends.
-fn fill_block(
-    chunk: &[u8],
-    start: usize,
-    n: usize,
-    least: i64,
-    column: &mut [i64],
-    from: usize,
-) -> usize
-    requires packed { Inside chunk.now start n }
-    requires n_in_bounds { from + n < length column.old }
-    ensures value { result ≡ start + 1 + packed_len n (get_or chunk.now start 0) }
-    ensures column_after { column.new ≡ summed column.old from
-        (from_least least (packed_values chunk.now (start + 1) (get_or chunk.now start 0) n)) }
+// The values of a block, by its least delta and its offsets, behind the value at `from`.
+fn fill_block(offsets: Blocks<'_>, least: i64, column: &mut [i64], from: usize)
+    requires { from + length (to_come offsets) < length column.old }
+    ensures { column.new ≡ summed column.old from (from_least least (to_come offsets.entry)) }
 {
     let mut sum = RunningSum {
         last: column[from],
         least,
     };
-    fill_by(chunk, start, n, &mut sum, &mut column[from + 1..]);
-    start + 1 + packed_bytes(n, chunk[start] as u32)
+    fill_by(offsets, &mut sum, &mut column[from + 1..]);
 }
 
 // The values of blocks of `deltas` deltas in all, from a place on, behind the first value.
@@ -45,28 +33,25 @@ fn fill_blocks(chunk: &[u8], size: usize, from: usize, deltas: usize, column: &m
     for done in (0..deltas).step_by(size) {
         let n = (deltas - done).min(size);
         // It was read before.
-        let Ok(least) = varint::read_varint(chunk, at) else {
-            return;
-        };
-        at = fill_block(chunk, least.next, n, least.value, column, done);
+        let least = varint::read_varint(chunk, at).unwrap();
+        let offsets = Blocks::new(chunk, least.next, n);
+        fill_block(offsets, least.value, column, done);
+        at = offsets.end();
     }
 }
 
 // The values of a body that was asked for and found.
-pub(crate) fn fill(chunk: &[u8], header: Header, column: &mut [i64])
-    requires { (header.count ≤ length column.old) × (header.count ≤ max_chunk_elements) × BodyThere chunk.now header.start header.count }
-    ensures { column.new ≡ stored (delta_values chunk.now header.start header.count) column.old }
+pub(crate) fn fill(body: Body<'_>, column: &mut [i64])
+    requires { (body.header.count ≤ length column.old) × BodyThere body.chunk.now body.header.start body.header.count }
+    ensures { column.new ≡ stored (delta_values body.entry.chunk.now body.entry.header.start body.entry.header.count) column.old }
 {
+    let Body { chunk, header } = body;
     if header.count == 0 {
         return;
     }
     // Both varints were read before.
-    let Ok(first) = varint::read_varint(chunk, header.start) else {
-        return;
-    };
-    let Ok(size) = varint::read_uvarint(chunk, first.next) else {
-        return;
-    };
+    let first = varint::read_varint(chunk, header.start).unwrap();
+    let size = varint::read_uvarint(chunk, first.next).unwrap();
     column[0] = first.value;
     let deltas = header.count - 1;
     fill_blocks(chunk, size.value as usize, size.next, deltas, column);

@@ -6,8 +6,8 @@ ghost use Rattle.std.specs.Prelude.{◌≡◌, length, refl};
 ghost use Rattle.format.specs.Delta.{delta_body};
 ghost use Rattle.format.specs.declared.encoding.Encoding.TheVariants as Encodings;
 
-use codec::chunk::{Codec, Encoder, lacking_for};
-use format::{Encoding, Extent, Header, Refusal};
+use codec::chunk::{Body, Codec, Encoder, lacking_for};
+use format::{Column, Encoding, Extent, Refusal};
 
 pub(crate) mod filling;
 pub(crate) mod running;
@@ -21,12 +21,13 @@ impl Codec for DeltaBinaryPacked {
 
     const ENCODING: Encoding = Encoding::DeltaBinaryPacked;
 
-    fn settle_body(chunk: &[u8], strict: bool, header: Header) -> Result<Extent, Refusal> {
-        settling::settle_body(chunk, header)
+    #[tactic(auto, using(codec::proofs::Settling::settled_as), unfolding(format::specs::Chunk::validate_body))]
+    fn settle_body(body: Body<'_>, strict: bool) -> Result<Extent, Refusal> {
+        settling::settle_body(body)
     }
 
-    fn fill(chunk: &[u8], header: Header, column: &mut [i64]) {
-        filling::fill(chunk, header, column)
+    fn fill(body: Body<'_>, column: &mut [i64]) {
+        filling::fill(body, column)
     }
 }
 
@@ -38,16 +39,16 @@ impl Encoder for DeltaBinaryPacked {
 
     ghost scratchless = { λ k. refl };
 
-    fn measure(column: &[i64]) -> usize {
+    fn measure(column: Column<'_>) -> usize {
         writing::body_len(column)
     }
 
-    fn lacking(column: &[i64], body: usize, space: usize) -> Option<usize> {
-        lacking_for(column.len(), body, space)
+    fn lacking(column: Column<'_>, body: usize, space: usize) -> Option<usize> {
+        lacking_for(column.values.len(), body, space)
     }
 
-    fn store(column: &[i64], body: usize, out: &mut [u8], at: usize) -> usize {
-        writing::store(column, out, at);
+    fn store(column: Column<'_>, body: usize, out: &mut [u8], at: usize) -> usize {
+        writing::store(column.values, out, at);
         at + body
     }
 }

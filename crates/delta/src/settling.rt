@@ -5,22 +5,18 @@ ghost use Rattle.format.specs.Delta.{block_count, validate_blocks, validate_delt
 ghost use Rattle.format.specs.Encodings.{max_chunk_elements};
 ghost use Rattle.delta.specs.There.{block_extent};
 
-use codec::body::{first_padded, settle_packed};
+use codec::body::{settle_packed, with_varint};
+use codec::chunk::Body;
 use format::limits::MAX_DELTA_BLOCK_SIZE;
-use format::{Extent, Header, Kind, Refusal};
+use format::{Extent, Kind, Refusal};
 
 // A block of n deltas: the varint of its least delta, its width byte, its packed offsets.
 #[tactic(auto, unfolding(crate::specs::There::block_extent))]
-fn settle_block(chunk: &[u8], at: usize, n: usize, padded: Option<usize>) -> Result<Extent, Refusal>
-    ensures { outcome_of result ≡ block_extent chunk.now at n padded }
+fn settle_block(chunk: &[u8], before: Extent, n: usize) -> Result<Extent, Refusal>
+    ensures { outcome_of result ≡ block_extent chunk.now before.end n before.padded }
 {
-    let least = varint::read_uvarint(chunk, at)?;
-    settle_packed(
-        chunk,
-        least.next,
-        n,
-        first_padded(padded, at, least.unpadded),
-    )
+    let least = varint::read_uvarint(chunk, before.end)?;
+    settle_packed(chunk, with_varint(before, least), n)
 }
 
 // Blocks of `deltas` deltas in all, after what was read before.
@@ -37,32 +33,25 @@ fn settle_blocks(
     let mut read = before;
     for done in (0..deltas).step_by(size) {
         let n = (deltas - done).min(size);
-        read = settle_block(chunk, read.end, n, read.padded)?;
+        read = settle_block(chunk, read, n)?;
     }
     Ok(read)
 }
 
 // A body: nothing where there are no values; else the first value, the block size, the blocks.
 #[tactic(auto, using(crate::proofs::Asking::body_none, crate::proofs::Asking::body_more))]
-pub(crate) fn settle_body(chunk: &[u8], header: Header) -> Result<Extent, Refusal>
-    requires { header.count ≤ max_chunk_elements }
-    ensures { outcome_of result ≡ validate_delta chunk.now header.start header.count header.padded }
+pub(crate) fn settle_body(body: Body<'_>) -> Result<Extent, Refusal>
+    ensures { let h = body.entry.header in outcome_of result ≡ validate_delta body.entry.chunk.now h.start h.count h.padded }
 {
+    let Body { chunk, header } = body;
     if header.count == 0 {
-        return Ok(Extent {
-            end: header.start,
-            padded: header.padded,
-        });
+        return Ok(body.before());
     }
     let first = varint::read_uvarint(chunk, header.start)?;
     let size = varint::read_uvarint(chunk, first.next)?;
     if size.value == 0 || size.value > MAX_DELTA_BLOCK_SIZE {
         return Err(Kind::BlockSizeOutOfRange.at(size.next));
     }
-    let padded = first_padded(header.padded, header.start, first.unpadded);
-    let before = Extent {
-        end: size.next,
-        padded: first_padded(padded, first.next, size.unpadded),
-    };
+    let before = with_varint(with_varint(body.before(), first), size);
     settle_blocks(chunk, size.value as usize, before, header.count - 1)
 }

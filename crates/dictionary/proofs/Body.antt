@@ -1,23 +1,19 @@
 -- A Dictionary body, part by part: how long it is, and that the total, the entries, the width byte and the codes, stored one after the other, are the body.
-use mathlib.Core.Path.{◌≡◌, sym, ap, ap₂, ◌∙◌}
+use mathlib.Core.Path.{refl, ◌≡◌, sym, ap, ◌∙◌}
 use mathlib.Core.List.{List, ◌∷◌, ◌++◌, map}
-use Prim.Native.Nat.{ℕ, ◌+◌, ◌-◌, ◌≤◌, ◌<◌}
-use native.Mathlib.Numerals.{add-one}
+use Prim.Native.Nat.{ℕ, ◌+◌, ◌≤◌, ◌<◌}
 use native.Mathlib.Omega.{arith}
 use lib.IntN.{ℤ}
-use lib.ListN.{length, set, length-append, length-map, length-set}
-use lib.Seq.{sets, length-sets}
-use Rattle.format.specs.Varint.{uvarint_len, uvarint_bytes}
+use lib.ListN.{length, set, length-append, length-map}
+use lib.Seq.{sets}
 use Rattle.format.specs.Packing.{packed_len, packed}
 use Rattle.format.specs.Dictionary.{entry_bytes, code_of, code_width, dictionary_body_with}
-use Rattle.format.specs.Standalone.{uvarint_write_outcome}
-use Rattle.format.proofs.Lengths.Limits.{code_width-le}
+use Rattle.std.specs.Prelude.{Option, Some, IsSome}
 use Rattle.format.proofs.Lengths.Parts.{length-entry_bytes}
 use Rattle.format.proofs.Numbers.Uvarints.{length-uvarint_bytes}
 use Rattle.format.proofs.Numbers.Packing.{length-packed}
-use Rattle.format.proofs.Numbers.Stores.{sets-append}
-use Rattle.places.specs.Places.{laid, laid_end}
-use Rattle.places.proofs.Placing.{uvarint-laid}
+use Rattle.format.proofs.Numbers.Stores.{Storing, storing-none, storing-part, storing-one, storing-room}
+use Rattle.places.proofs.Placing.{PutUvarint, storing_uvarint, storing_uvarint_some}
 use Rattle.entries.specs.Measured.{body_len}
 
 module _ (entries column : List ℤ) where
@@ -36,47 +32,45 @@ module _ (entries column : List ℤ) where
   body-length = simp (length-append, length-uvarint_bytes, length-entry_bytes, length-codes) (omega arith)
 
   module _ (output : List ℕ) (start : ℕ) (room : start + body_len entries (length column) ≤ length output) where
-    parts : start + uvarint_len total + length (entry_bytes entries) + 1 + packed_len (length column) (code_width total) ≤ length output
-    unfolding body_len
-    parts = omega (arith, room, length-entry_bytes entries)
+    abbrev whole : List ℕ
+    whole = dictionary_body_with entries column
+
+    -- after the entries
+    abbrev tail : List ℕ
+    tail = code_width total ∷ codes (code_width total)
+
+    enough : start + length whole ≤ length output
+    enough = omega (arith, body-length, room)
 
     -- the total
-    module _ {first : ℕ} {begun : List ℕ}
-        (t : (first ≡ laid_end (uvarint_write_outcome total (length output - start)) start) × (begun ≡ laid (uvarint_write_outcome total (length output - start)) start output))
-      where
-        laid-total : (first ≡ start + length (uvarint_bytes total)) × (begun ≡ sets output start (uvarint_bytes total))
-        laid-total = rw (uvarint-laid start output total (omega (arith, parts))) at t
+    module _ {begun : List ℕ} {end : Option ℕ} (put : PutUvarint total output start begun end) where
+      pub total-there : IsSome end
+      unfolding dictionary_body_with
+      total-there = storing_uvarint_some storing-none enough total (entry_bytes entries ++ tail) refl put
 
-        long : length begun ≡ length output
-        long = ap length laid-total.1 ∙ length-sets output start (uvarint_bytes total)
+      module _ {first : ℕ} (found : end ≡ Some first) where
+        total-stored : Storing whole output start (entry_bytes entries ++ tail) begun first
+        unfolding dictionary_body_with
+        total-stored = storing_uvarint storing-none enough total (entry_bytes entries ++ tail) refl put found
 
         pub entries-room : first + length (entry_bytes entries) ≤ length begun
-        entries-room = omega (arith, laid-total.0, length-uvarint_bytes total, parts, long)
+        entries-room = omega (arith, storing-room total-stored enough, length-append (entry_bytes entries) tail)
 
         -- the entries
         module _ {at : ℕ} {more : List ℕ} (e : (at ≡ first + length (entry_bytes entries)) × (more ≡ sets begun first (entry_bytes entries))) where
-          pub more-long : length more ≡ length output
-          more-long = ap length e.1 ∙ length-sets begun first (entry_bytes entries) ∙ long
-
-          after : at + 1 + packed_len (length column) (code_width total) ≤ length more
-          after = omega (arith, e.0, laid-total.0, length-uvarint_bytes total, parts, more-long)
+          entries-stored : Storing whole output start tail more at
+          entries-stored = rw (e.0, e.1) (storing-part total-stored (entry_bytes entries) tail refl)
 
           pub width_room : at < length more
-          width_room = omega (arith, after)
+          width_room = omega (arith, storing-room entries-stored enough)
 
           -- the width byte and the codes
           module _ {w : ℕ} (width : w ≡ code_width total) where
-            pub codes-room : (w ≤ 64) × (at + 1 + packed_len (length column) w ≤ length (set more at w))
-            codes-room = rw width (code_width-le total, rw (length-set more at (code_width total)) after)
+            width-stored : Storing whole output start (codes w) (set more at w) (at + 1)
+            width-stored = storing-one entries-stored w (codes w) (ap (λ (v : ℕ). v ∷ codes v) (sym width))
 
-            pub body-stored : {out : List ℕ} → out ≡ sets (set more at w) (at + 1) (codes w) → out ≡ sets output start (dictionary_body_with entries column)
-            unfolding dictionary_body_with
-            body-stored done =
-                let tail : List ℕ = code_width total ∷ codes (code_width total) in
-                done
-                ∙ ap (λ (v : ℕ). sets (set more at v) (at + 1) (codes v)) width
-                ∙ ap (λ (k : ℕ). sets (set more at (code_width total)) k (codes (code_width total))) (add-one at)
-                ∙ ap₂ (λ (l : List ℕ) (k : ℕ). sets l k tail) e.1 e.0
-                ∙ sym (sets-append (entry_bytes entries) tail begun first)
-                ∙ ap₂ (λ (l : List ℕ) (k : ℕ). sets l k (entry_bytes entries ++ tail)) laid-total.1 laid-total.0
-                ∙ sym (sets-append (uvarint_bytes total) (entry_bytes entries ++ tail) output start)
+            pub codes-room : at + 1 + packed_len (length column) w ≤ length (set more at w)
+            codes-room = omega (arith, storing-room width-stored enough, length-codes w)
+
+            pub body-stored : {out : List ℕ} → out ≡ sets (set more at w) (at + 1) (codes w) → out ≡ sets output start whole
+            body-stored done = done ∙ width-stored.same

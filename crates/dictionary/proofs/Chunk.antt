@@ -10,6 +10,7 @@ use lib.Dec.{leb}
 use lib.ListN.{length, take}
 use lib.Seq.{sets, length-take-le}
 use borrow.Author.Tests.{le-leb, lt-leb}
+use Rattle.std.specs.Prelude.{Some}
 use Rattle.format.specs.Outcome.{Outcome, refused, ok, check, ◌>>=◌}
 use Rattle.format.specs.Encodings.{encoding_of, encodings, max_chunk_elements}
 use Rattle.format.specs.Header.{header_len}
@@ -21,7 +22,7 @@ use Rattle.format.specs.Write.{for_dictionary, write_checks, write_outcome, writ
 use Rattle.format.specs.declared.encoding.Encoding.{Encoding}
 use Rattle.format.specs.declared.encoding.Encoding.TheVariants.{Dictionary}
 use Rattle.format.proofs.Numbers.Distinct.{distinct-rising}
-use Rattle.codec.proofs.Writing.{length-chunk}
+use Rattle.format.proofs.Lengths.Exact.{length-chunk}
 use Rattle.distinct.specs.Collect.{count_outcome, collect_outcome}
 use Rattle.distinct.proofs.Answering.{Collected}
 use Rattle.entries.specs.Measured.{body_len, measured}
@@ -46,15 +47,17 @@ module _ {column scratch : List ℤ} {n : ℕ} (c : Collected column scratch n) 
   entries-length = sym (body-length (take n scratch) column) ∙ ap length entries-body
 
   -- it is what is measured
-  same-measured : measured (take n scratch) (length column) ≡ body_len (take n scratch) (length column)
+  pub same-measured : measured (take n scratch) (length column) ≡ Some (body_len (take n scratch) (length column))
   same-measured = measured-within (take n scratch) (length column) c.few (rw (length-take-le n scratch c.there) c.most)
 
-  pub entries-most : measured (take n scratch) (length column) ≤ 11 + 10 * n + 8 * length column
-  entries-most = rw same-measured (rw (length-take-le n scratch c.there) at (body_len-most (take n scratch) (length column)))
+  pub entries-most : body_len (take n scratch) (length column) ≤ 11 + 10 * n + 8 * length column
+  entries-most = rw (length-take-le n scratch c.there) at (body_len-most (take n scratch) (length column))
 
-  pub entries-measured : {header body : ℕ} → header ≡ header_len (length column) → body ≡ measured (take n scratch) (length column)
+  pub entries-measured : {header body : ℕ} → header ≡ header_len (length column) → Some body ≡ measured (take n scratch) (length column)
       → header + body ≡ header_len (length column) + length (body_of Dictionary column)
-  entries-measured h b = omega (arith, same-measured, entries-length)
+  entries-measured {body} h b =
+      let long : body ≡ body_len (take n scratch) (length column) = cc (b, same-measured) in
+      omega (arith, entries-length)
 
 -- ---- the questions
 

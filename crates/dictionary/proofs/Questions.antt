@@ -9,8 +9,7 @@ use lib.ListN.{length, get_or}
 use borrow.Author.Tests.{le-leb, leb-true}
 use Rattle.format.specs.Outcome.{Outcome, refused, ok, check, ◌>>=◌}
 use Rattle.format.specs.declared.Extent.{Extent}
-use Rattle.format.specs.declared.Uvarint.{Uvarint}
-use Rattle.format.specs.Varint.{read_uvarint, uvarint_at, first_padded, validate_uvarints, after_uvarints}
+use Rattle.format.specs.Varint.{Uvarint, read_uvarint, uvarint_at, first_padded, validate_uvarints, after_uvarints}
 use Rattle.format.specs.Packing.{width_at, packed_end, packed_values}
 use Rattle.format.specs.Encodings.{max_chunk_elements}
 use Rattle.format.specs.Dictionary.{all_below, validate_dictionary}
@@ -19,7 +18,7 @@ use Rattle.format.proofs.Codecs.Counts.{uvarint-again}
 use Rattle.format.proofs.Codecs.Outcome.{both-passed, check-passed}
 use Rattle.places.specs.Packed.{Inside}
 use Rattle.codec.proofs.Settling.{passed-inside}
-use Rattle.dictionary.specs.Reading.{settled_codes, ReadBody}
+use Rattle.dictionary.specs.Reading.{settled_codes, AllRead, ReadBody}
 use Rattle.std.specs.Prelude.{Option}
 
 -- ---- the codes
@@ -82,6 +81,14 @@ after-passed s at (suc n) padded h =
     both-passed (read_uvarint s at) _ h λ v found h₁.
     after-passed s v.next n _ h₁ ∙ ap (λ (r : Uvarint). after_uvarints s r.next n) (sym (uvarint-again s at found))
 
+-- and none of them is refused
+read-passed : (s : List ℕ) (at n : ℕ) (padded : Option ℕ) {x : Extent} → validate_uvarints s at n padded ≡ ok x → AllRead s at n
+unfolding validate_uvarints AllRead
+read-passed s at zero padded h = tt
+read-passed s at (suc n) padded h =
+    both-passed (read_uvarint s at) _ h λ v found h₁.
+    (rw found refl, rw (uvarint-again s at found) (read-passed s v.next n _ h₁))
+
 pub body-passed : (s : List ℕ) (start count : ℕ) (padded : Option ℕ) {x : Extent} → count ≤ max_chunk_elements → validate_dictionary s start count padded ≡ ok x
     → ReadBody s start count
 unfolding validate_dictionary
@@ -96,6 +103,8 @@ body-passed s start count padded few h =
     let place : after_uvarints s total.next total.value ≡ codes.end = sym (after-passed s total.next total.value _ found) in
     let same : get_or s codes.end 0 ≡ w = width_is s codes.end width in
     record {
+      total = rw read refl;
+      read = rw at (read-passed s total.next total.value _ found);
       entries = rw at (omega (arith, leb-true total.value (length s - total.next) (check-passed _ 17 _ enough)));
       codes = rw (at, place) (passed-inside few width ends);
       below = rw (at, place, same) (check-passed _ 18 _ below);

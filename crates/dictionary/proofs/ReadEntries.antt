@@ -1,19 +1,22 @@
 -- Entries, read from their varints: from a place on, and cut in two.
 use mathlib.Core.Path.{◌≡◌, refl, sym, ap, ◌∙◌}
 use mathlib.Core.List.{List, [], ◌∷◌, ◌++◌, append-nil}
-use Prim.Native.Nat.{ℕ, zero, suc, ◌+◌, ◌-◌, ◌^◌, ◌<◌, ◌≤◌}
-use native.Mathlib.Nat.{add-zero, zero-add, suc-add, add-suc, mod-eq_of_lt, zero-lt-suc}
+use Prim.Native.Nat.{ℕ, zero, suc, ◌+◌, ◌-◌, ◌<◌, ◌≤◌}
+use native.Mathlib.Nat.{sub-zero, suc-sub-suc, add-zero, zero-add, suc-add, add-suc, zero-lt-suc}
 use native.Mathlib.Omega.{arith}
 use lib.IntN.{ℤ, pos}
 use lib.ListN.{length, get_or, set, drop_of_length-le}
 use borrow.Author.Tests.{ne_eqb}
 use Rattle.format.specs.Answers.{stored}
-use Rattle.format.specs.Keys.{wrapping_add, as_signed, unzigzag}
+use Rattle.format.specs.Keys.{wrapping_add, unzigzag}
 use Rattle.format.specs.Varint.{uvarint_at, uvarint_values, after_uvarints}
 use Rattle.format.specs.Dictionary.{entries_from, entries_of}
-use Rattle.format.proofs.Numbers.Keys.{residue-as_signed, wrapping_add-residue}
 use Rattle.format.proofs.Numbers.Stores.{Storing, storing-one, storing-done, sets-stored}
-use Rattle.dictionary.specs.Reading.{entry_at, entries_at}
+use Rattle.varint.specs.declared.find.Found.{Found}
+use Rattle.varint.specs.Finding.{found_in, found_at}
+use Rattle.varint.proofs.Finding.{found_is}
+use Rattle.std.specs.Prelude.{Option, Some, IsSome}
+use Rattle.dictionary.specs.Reading.{AllRead, entry_at, entries_at}
 
 -- ---- places
 
@@ -26,9 +29,36 @@ module _ (s : List ℕ) (at : ℕ) {n i : ℕ} where
   unfolding after_uvarints
   after_end h = let k : n - i ≡ 0 = omega arith in rw k
 
--- bits added to a key
-pub wrapping_bits : (last : ℤ) (n : ℕ) → n < 2 ^ 64 → wrapping_add last (as_signed n) ≡ wrapping_add last (pos n)
-wrapping_bits last n h = wrapping_add-residue last (as_signed n) (pos n) (residue-as_signed n h ∙ sym (mod-eq_of_lt h))
+-- ---- varints that were read
+
+module _ (s : List ℕ) (at : ℕ) where
+  -- the first is found,
+  pub read_some : {n : ℕ} → 0 < n → AllRead s at n → {found : Option Found} → found ≡ found_in s at → IsSome found
+  unfolding AllRead
+  read_some {n = zero} h r e = absurd (omega arith)
+  read_some {n = suc n} h r e = rw e r.0
+
+  -- and is what was read,
+  pub read-value : {found : Option Found} {there : Found} → found ≡ found_in s at → found ≡ Some there → there ≡ found_at s at
+  read-value e f = found_is s at (sym f ∙ e)
+
+  -- and those after it are read too
+  pub read_next : {n i : ℕ} → i < n → AllRead s at (n - i) → AllRead s (uvarint_at s at).next (n - (i + 1))
+  unfolding AllRead
+  read_next {n} {i} h r = let k : n - i ≡ suc (n - (i + 1)) = omega arith in (rw k at r).1
+
+-- so are the first of them, and those after these
+pub read-front : (s : List ℕ) (at a n : ℕ) → a ≤ n → AllRead s at n → AllRead s at a
+unfolding AllRead
+read-front s at zero n h r = tt
+read-front s at (suc a) zero h r = absurd (omega arith)
+read-front s at (suc a) (suc n) h r = (r.0, read-front s (uvarint_at s at).next a n (omega arith) r.1)
+
+pub read-rest : (s : List ℕ) (at a n : ℕ) → a ≤ n → AllRead s at n → AllRead s (after_uvarints s at a) (n - a)
+unfolding AllRead after_uvarints
+read-rest s at zero n h r = rw (sub-zero n) r
+read-rest s at (suc a) zero h r = absurd (omega arith)
+read-rest s at (suc a) (suc n) h r = rw (suc-sub-suc n a) (read-rest s (uvarint_at s at).next a n (omega arith) r.1)
 
 -- ---- entries
 

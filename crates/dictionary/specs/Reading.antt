@@ -1,5 +1,7 @@
 -- What the parts of reading a Dictionary body say. No public contract cites this file.
-use Rattle.std.specs.Prelude.{◌≡◌, ℕ, suc, ◌+◌, ◌-◌, ◌≤◌, true, cond, List, [], ◌∷◌, ℤ, pos, ltb, eqb, length, get_or, Option, refl}
+use Rattle.std.specs.Prelude.{◌≡◌, ℕ, zero, suc, ◌+◌, ◌-◌, ◌≤◌, true, cond, List, [], ◌∷◌, ℤ, pos, ltb, eqb, length, get_or, Option, IsSome, ⊤, refl}
+use Rattle.std.specs.Coded.{×_prop, Unit-prop}
+use Rattle.std.proofs.Math.Bool.{Bool-set}
 use Rattle.format.specs.Outcome.{Outcome, ok, check, ◌>>=◌}
 use Rattle.format.specs.Keys.{wrapping_add, unzigzag}
 use Rattle.format.specs.declared.Extent.{Extent}
@@ -7,6 +9,7 @@ use Rattle.format.specs.Varint.{uvarint_at, after_uvarints}
 use Rattle.format.specs.Packing.{packed_values}
 use Rattle.format.specs.Parts.{packed_extent}
 use Rattle.format.specs.Dictionary.{all_below}
+use Rattle.varint.specs.Finding.{found_in}
 use Rattle.places.specs.Packed.{Inside}
 
 -- the questions after the entries: 10, 12, 13, 18; asked of more values than a chunk can have, it is 21, as `packed_extent` is
@@ -41,9 +44,22 @@ picked_all-none done table olds = refl
 
 -- ---- what filling is told
 
--- a body that was passed: the entries are no more than the chunk has bytes, and the codes after them are all below
+-- n varints in a row, none of which is refused
+unfoldable pub AllRead : List ℕ → ℕ → ℕ → Type 0
+AllRead s at zero = ⊤
+AllRead s at (suc n) = IsSome (found_in s at) × AllRead s (uvarint_at s at).next n
+
+-- which has one proof, so a struct may keep it
+pub all_read-prop : (s : List ℕ) (at n : ℕ) → IsProp (AllRead s at n)
+unfolding AllRead
+all_read-prop s at zero = Unit-prop
+all_read-prop s at (suc n) = ×_prop (Bool-set _ _) (all_read-prop s (uvarint_at s at).next n)
+
+-- a body that was passed: the total and the entries are there, the entries are no more than the chunk has bytes, and the codes after them are all below
 pub record ReadBody (s : List ℕ) (start count : ℕ) : Type 0 where
+  pub total : IsSome (found_in s start)
   pub entries : (uvarint_at s start).value ≤ length s
+  pub read : AllRead s (uvarint_at s start).next (uvarint_at s start).value
   pub codes : Inside s (after_uvarints s (uvarint_at s start).next (uvarint_at s start).value) count
   pub below : all_below (uvarint_at s start).value
       (packed_values s (after_uvarints s (uvarint_at s start).next (uvarint_at s start).value + 1)

@@ -3,27 +3,30 @@
 ghost use Rattle.std.specs.Prelude.{◌≡◌, ◌<◌, length};
 ghost use Rattle.format.specs.Dictionary.{code_of};
 ghost use Rattle.format.specs.Distinct.{Rising};
+ghost use Rattle.distinct.specs.Rising.{rising-prop};
 
-fn place_of(guess: u16) -> usize {
-    guess as usize
+// The entries to write, which rise.
+#[derive(Clone, Copy)]
+pub(crate) struct Entries<'a> {
+    pub(crate) values: &'a [i64],
+    ghost rising: { Rising values.now } by { rising-prop values.now },
 }
 
-// Places from 65,536 on are guessed wrong.
-fn guess_of(place: usize) -> u16 {
-    (place % 65536) as u16
-}
-
-// How many values are less than a key. `guesses` holds where keys were found before: whatever it holds, the result is the same.
-pub(crate) fn rank(values: &[i64], key: i64, guesses: &mut [u16]) -> usize
-    requires { (0 < length guesses.old) × Rising values.now }
-    ensures { result ≡ code_of values.now key }
-{
-    let slot = distinct::slot_of(key, guesses.len());
-    let guess = place_of(guesses[slot]);
-    if distinct::stands(values, guess, key) {
-        return guess;
+impl<'a> Entries<'a> {
+    // How many entries are less than a key. `guesses` holds where keys were found before: whatever it holds, the result is the
+    // same.
+    pub(crate) fn rank(self, key: i64, guesses: &mut [u16]) -> usize
+        requires { 0 < length guesses.old }
+        ensures { result ≡ code_of self.entry.values.now key }
+    {
+        let slot = distinct::slot_of(key, guesses.len());
+        let guess = usize::from(guesses[slot]);
+        if distinct::stands(self.values, guess, key) {
+            return guess;
+        }
+        let place = distinct::search(self.values, key);
+        // Places from 65,536 on are guessed wrong.
+        guesses[slot] = (place % 65536) as u16;
+        place
     }
-    let place = distinct::search(values, key);
-    guesses[slot] = guess_of(place);
-    place
 }

@@ -1,4 +1,4 @@
-// 6. Dictionary: entry total, first entry as a signed varint, gaps as varints, width byte, packed codes (the Rust's
+// Encoding 6, Dictionary: entry total, first entry as a signed varint, gaps as varints, width byte, packed codes (the Rust's
 // `DictionaryCodec`).
 #![tactic(auto)]
 
@@ -7,15 +7,17 @@ ghost use Rattle.format.specs.Write.{write_answer, write_output, write_scratch};
 ghost use Rattle.format.specs.declared.encoding.Encoding.TheVariants as Encodings;
 ghost use Rattle.std.specs.Prelude.{length, ◌≡◌};
 
-use codec::chunk::Codec;
+use crate::guess::Entries;
+use codec::chunk::{Body, Codec};
 use codec::header::{header_len, put_header};
 use entries::body_len;
-use format::{Encoding, Extent, Header, Kind, Refusal};
+use format::{Column, Encoding, Extent, Kind, Refusal};
 
 pub(crate) mod coded;
 pub(crate) mod guess;
 pub(crate) mod lookup;
 pub(crate) mod reading;
+pub(crate) mod row;
 pub(crate) mod table;
 pub(crate) mod writing;
 
@@ -26,13 +28,18 @@ pub fn encode(column: &[i64], scratch: &mut [i64], out: &mut [u8]) -> Result<usi
     ensures scratch_after { scratch.new ≡ write_scratch 6 column.now scratch.old }
     ensures out_after { out.new ≡ write_output 6 column.now (length scratch.old) out.old }
 {
-    let entries = distinct::collect(column, scratch)?;
-    let needed = header_len(column.len()) + body_len(&scratch[..entries], column.len());
+    let held = distinct::collect(column, scratch)?;
+    let entries = Entries {
+        values: &scratch[..held],
+    };
+    // Collecting has asked whether there are too many of either.
+    let body = body_len(entries.values, column.len()).unwrap();
+    let needed = header_len(column.len()) + body;
     if out.len() < needed {
         return Err(Kind::BufferTooShort.at(needed));
     }
-    let at = put_header(Encoding::Dictionary, column.len(), out);
-    writing::store(column, &scratch[..entries], out, at);
+    let at = put_header(Encoding::Dictionary, column.len(), out).unwrap();
+    writing::store(Column { values: column }, entries, out, at);
     Ok(needed)
 }
 
@@ -43,11 +50,12 @@ impl Codec for Dictionary {
 
     const ENCODING: Encoding = Encoding::Dictionary;
 
-    fn settle_body(chunk: &[u8], strict: bool, header: Header) -> Result<Extent, Refusal> {
-        reading::settle_body(chunk, header)
+    #[tactic(auto, using(codec::proofs::Settling::settled_as), unfolding(format::specs::Chunk::validate_body))]
+    fn settle_body(body: Body<'_>, strict: bool) -> Result<Extent, Refusal> {
+        reading::settle_body(body)
     }
 
-    fn fill(chunk: &[u8], header: Header, column: &mut [i64]) {
-        lookup::fill(chunk, header, column)
+    fn fill(body: Body<'_>, column: &mut [i64]) {
+        lookup::fill(body, column)
     }
 }

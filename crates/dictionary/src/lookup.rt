@@ -8,12 +8,14 @@ ghost use Rattle.format.specs.Answers.{stored};
 ghost use Rattle.format.specs.Varint.{uvarint_values, after_uvarints};
 ghost use Rattle.format.specs.Packing.{packed_values};
 ghost use Rattle.format.specs.Dictionary.{dictionary_values};
-ghost use Rattle.places.specs.Packed.{Inside};
+ghost use Rattle.places.specs.Blocks.{to_come};
 ghost use Rattle.dictionary.specs.Reading.{entry_at, entries_at, picked, picked_all, ReadBody};
 
+use crate::row::Row;
 use crate::table::Table;
-use format::Header;
+use codec::chunk::Body;
 use format::limits::MAX_DICTIONARY_CARDINALITY;
+use places::block::Blocks;
 use places::unpacked::fill_by;
 use varint::find::find_any;
 
@@ -28,28 +30,16 @@ fn entry_at(i: usize, last: i64, value: u64) -> i64
     number::wrapping_add(last, number::of_bits(value))
 }
 
-// The place after n entries that begin at `from`.
-#[tactic(auto, using(crate::proofs::ReadEntries::after_step, crate::proofs::ReadEntries::after_end))]
-fn after_entries(chunk: &[u8], from: usize, n: usize) -> usize
-    ensures { result ≡ after_uvarints chunk.now from n }
+// Fills a table with the entries of a row, of which the first is entry `done`, and answers the place after them.
+fn load(row: Row<'_>, done: usize, before: i64, table: &mut [i64]) -> usize
+    requires { (row.count ≡ length table.old) × (done + row.count ≤ length row.chunk.now) }
+    ensures value { result ≡ after_uvarints row.entry.chunk.now row.entry.start (length table.old) }
+    ensures table_after { table.new ≡ entries_at done before (uvarint_values row.entry.chunk.now row.entry.start (length table.old)) }
 {
-    let mut at = from;
-    for _ in 0..n {
-        at = find_any(chunk, at).next;
-    }
-    at
-}
-
-// Fills a table with the entries from `done` on, of which the first begins at `from`, and answers the place after them.
-fn load(chunk: &[u8], from: usize, done: usize, before: i64, table: &mut [i64]) -> usize
-    requires { done + length table.old ≤ length chunk.now }
-    ensures value { result ≡ after_uvarints chunk.now from (length table.old) }
-    ensures table_after { table.new ≡ entries_at done before (uvarint_values chunk.now from (length table.old)) }
-{
-    let mut at = from;
+    let mut at = row.start;
     let mut last = before;
     for (i, slot) in table.iter_mut().enumerate() {
-        let gap = find_any(chunk, at);
+        let gap = find_any(row.chunk, at).unwrap();
         last = entry_at(done + i, last, gap.value);
         *slot = last;
         at = gap.next;
@@ -67,53 +57,57 @@ fn in_reach(n: usize, w: u32) -> usize
     n.min(1usize << w)
 }
 
-// The values of all codes, by as many tables as the n entries fill.
-fn fill_by_tables(
-    chunk: &[u8],
-    from: usize,
-    n: usize,
-    place: usize,
-    count: usize,
-    table: &mut [i64],
-    column: &mut [i64],
-)
-    requires { (n ≤ length chunk.now) × (0 < length table.old) × (count ≤ length column.old) × Inside chunk.now place count }
+// The values of all codes, by as many tables of N entries as these fill. A table of 128 KiB is kept out of the callers, which
+// read chunks of any encoding, and it is local: there is no heap.
+#[inline(never)]
+fn fill_by_tables<const N: usize>(entries: Row<'_>, codes: Blocks<'_>, column: &mut [i64])
+    requires some { (0 < N) × (N ≤ 65536) }
+    requires there { (entries.count ≤ length entries.chunk.now) × (length (to_come codes) ≤ length column.old) }
     ensures { column.new ≡ sets column.old 0
-        (picked_all 0 (entries_at 0 (pos 0) (uvarint_values chunk.now from n))
-        (packed_values chunk.now (place + 1) (get_or chunk.now place 0) count) column.old) }
+        (picked_all 0 (entries_at 0 (pos 0) (uvarint_values entries.entry.chunk.now entries.entry.start entries.entry.count)) (to_come codes.entry) column.old) }
 {
-    let mut at = from;
+    let mut table = [0i64; N];
+    let mut at = entries.start;
     let mut last = 0;
-    let mut done = 0;
-    // Tried: `step_by`, with which a chunk of 8,192 entries took 4 percent more instructions to decode, and no more time.
-    while done < n {
-        let held = (n - done).min(table.len());
-        at = load(chunk, at, done, last, &mut table[..held]);
-        let mut entries = Table {
+    for done in (0..entries.count).step_by(N) {
+        let held = (entries.count - done).min(N);
+        let part = Row {
+            chunk: entries.chunk,
+            start: at,
+            count: held,
+        };
+        at = load(part, done, last, &mut table[..held]);
+        let mut decoding = Table {
             done,
             entries: &table[..held],
         };
-        fill_by(chunk, place, count, &mut entries, column);
+        fill_by(codes, &mut decoding, column);
         last = table[held - 1];
-        done += held;
     }
 }
 
 // The values of a body that was passed. A small table serves for few entries, since a local one is cleared first.
-pub(crate) fn fill(chunk: &[u8], header: Header, column: &mut [i64])
-    requires { (header.count ≤ length column.old) × ReadBody chunk.now header.start header.count }
-    ensures { column.new ≡ stored (dictionary_values chunk.now header.start header.count) column.old }
+pub(crate) fn fill(body: Body<'_>, column: &mut [i64])
+    requires { (body.header.count ≤ length column.old) × ReadBody body.chunk.now body.header.start body.header.count }
+    ensures { column.new ≡ stored (dictionary_values body.entry.chunk.now body.entry.header.start body.entry.header.count) column.old }
 {
-    let Header { start, count, .. } = header;
-    let total = find_any(chunk, start);
-    let n = total.value as usize;
-    let place = after_entries(chunk, total.next, n);
-    let used = in_reach(n, chunk[place] as u32);
-    if used <= 256 {
-        let mut small = [0i64; 256];
-        fill_by_tables(chunk, total.next, used, place, count, &mut small, column);
-        return;
+    let Body { chunk, header } = body;
+    let total = find_any(chunk, header.start).unwrap();
+    let all = Row {
+        chunk,
+        start: total.next,
+        count: total.value as usize,
+    };
+    let place = all.end();
+    let entries = Row {
+        chunk,
+        start: all.start,
+        count: in_reach(all.count, u32::from(chunk[place])),
+    };
+    let codes = Blocks::new(chunk, place, header.count);
+    if entries.count <= 256 {
+        fill_by_tables::<256>(entries, codes, column);
+    } else {
+        fill_by_tables::<MAX_DICTIONARY_CARDINALITY>(entries, codes, column);
     }
-    let mut table = [0i64; MAX_DICTIONARY_CARDINALITY];
-    fill_by_tables(chunk, total.next, used, place, count, &mut table, column);
 }

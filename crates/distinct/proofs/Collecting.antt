@@ -8,24 +8,30 @@ use native.Mathlib.Numerals.{add-one}
 use native.Mathlib.Omega.{arith}
 use lib.IntN.{ℤ, pos}
 use lib.Dec.{eqb}
-use lib.ListN.{length, get_or, set, take, drop, replicate, length-take, length-set, length-replicate, get_or-replicate, take-append-drop}
-use lib.Seq.{take-suc, take_all, length-take-le, drop-append-add, drop-drop, get_or-set_same, get_or-set_other, get_or-take}
-use borrow.Author.Tests.{le-leb, lt-leb, eqb-true, eqb-false}
+use lib.ListN.{length, get_or, set, take, drop, length-take, length-set, take-append-drop}
+use lib.Seq.{take-suc, take_all, length-take-le, drop-append-add, drop-drop, get_or-set_same, get_or-set_other}
+use borrow.Author.Tests.{eqb-true, eqb-false}
+use Rattle.std.specs.Prelude.{OnErr, IsOk, IfOk, IfErr, is_ok}
+use Rattle.std.proofs.Common.{Ok, Err}
+use Rattle.std.specs.declared.result.Result.{Result}
 use Rattle.format.specs.Encodings.{max_dictionary_cardinality}
 use Rattle.format.specs.Keys.{eq_z}
 use Rattle.format.specs.Answers.{stored}
 use Rattle.format.specs.Outcome.{ok, refused}
 use Rattle.format.specs.Distinct.{insert, distinct_from, distinct, Rising, scratch_needed, collected}
 use Rattle.format.proofs.Numbers.Order.{eq_z-true}
-use Rattle.format.proofs.Numbers.Distinct.{insert-grows, length-insert, distinct_from-grows, length-distinct, insert-rising, distinct-rising}
+use Rattle.format.proofs.Numbers.Distinct.{insert-grows, length-insert, distinct_from-grows, length-distinct, distinct-rising}
 use Rattle.format.proofs.Numbers.Distinct.{not-too_many_distinct, too_many_distinct-is, capped_distinct-all, capped_distinct-first}
-use Rattle.format.proofs.Plan.Checks.{length-stored, take-stored}
-use Rattle.distinct.specs.Collect.{count_outcome, has, vacant, taken, gathered, gathered_count}
-use Rattle.distinct.specs.Merge.{merged, Mergeable}
+use Rattle.format.proofs.Plan.Checks.{length-stored}
+use Rattle.distinct.specs.Collect.{count_outcome, has, vacant}
+use Rattle.distinct.specs.Sorted.{values_of, Becomes}
+use Rattle.distinct.specs.declared.known.Seen.{Seen}
+use Rattle.distinct.specs.declared.sorted.Sorted.{Sorted}
 use Rattle.distinct.specs.Search.{slot_of}
+use Rattle.distinct.specs.Seen.{Noted}
 use Rattle.distinct.proofs.Members.{eq_z-self, insert-into, insert-had, insert-more, has-none, has-insert, has_both, has_new, has-still}
 use Rattle.distinct.proofs.Slots.{slot_lt, vacant-other, vacant-before}
-use Rattle.distinct.proofs.Inserting.{same_front}
+use Rattle.distinct.proofs.Inserting.{same_front, front_stored}
 
 -- ---- distinct values, a value and a part at a time
 
@@ -63,15 +69,12 @@ stored-over front longer buffer h =
     ∙ drop-drop (length longer - length front) (length front) buffer
     ∙ ap (λ (n : ℕ). drop n buffer) (sym more))
 
--- the front of a buffer that was made of one key
-module _ (n : ℕ) (v : ℤ) (wait : ℕ) (h : wait ≤ n) where
-  pub length-made : length (take wait (replicate n v)) ≡ wait
-  length-made = length-take-le wait (replicate n v) (rw (length-replicate n v) h)
-
-  pub first_made : 0 < wait → get_or (take wait (replicate n v)) 0 (pos 0) ≡ v
-  first_made k = get_or-take wait (replicate n v) 0 (pos 0) k ∙ get_or-replicate n 0 v (pos 0) (omega arith)
-
 -- ---- few keys, each taken in at once
+
+-- a result whose error cannot be
+pub ok-unless : {A E P : Type 0} (r : Result A E) → OnErr r P → (P → ⊥) → IsOk r
+ok-unless (Ok x) h k = refl
+ok-unless (Err x) h k = absurd (k h)
 
 -- all keys: their number is the answer, and the scratch has them
 counted : (column old : List ℤ) {held i : ℕ} {s : List ℤ} → held ≡ length (distinct (take i column)) → held ≤ max_dictionary_cardinality → s ≡ stored (distinct (take i column)) old
@@ -85,147 +88,131 @@ counted column old {held} {i} count few are h =
       are ∙ ap (λ (l : List ℤ). stored (distinct l) old) all ∙ ap (λ (l : List ℤ). stored l old) (sym (capped_distinct-all column most)),
     )
 
-module _ (column old : List ℤ) where
-  pub record Taking (s : List ℤ) (held i : ℕ) : Type 0 where
-    pub upto : i ≤ length column
-    pub count : held ≡ length (distinct (take i column))
-    pub long : length s ≡ length old
-    pub are : s ≡ stored (distinct (take i column)) old
+-- a longer front after a shorter one
+becomes-then : {a b c : Sorted} {x y : List ℤ} → Becomes a b x → Becomes b c y → length x ≤ length y → Becomes a c y
+becomes-then {a} {b} {c} {x} {y} f g h =
+    record { same_buffer = g.same_buffer ∙ f.same_buffer; buffer = g.buffer ∙ ap (stored y) f.buffer ∙ stored-over x y a.slots.now h; count = g.count }
 
-  pub taking-none : Taking old 0 0
-  unfolding distinct distinct_from stored
-  taking-none = record { upto = omega arith; count = refl; long = refl; are = refl }
+module _ (column : List ℤ) {old s : Sorted} (i : ℕ) (t : Becomes old s (distinct (take i column))) where
+  held-are : values_of s ≡ distinct (take i column)
+  held-are = front_stored (distinct (take i column)) old.slots.now t.buffer t.count
 
-  module _ (few : length column ≤ max_dictionary_cardinality) (room : length column ≤ length old) {s : List ℤ} {held i : ℕ} (t : Taking s held i) where
-    held-are : take held s ≡ distinct (take i column)
-    held-are = ap (λ (n : ℕ). take n s) t.count ∙ ap (take (length (distinct (take i column)))) t.are ∙ take-stored (distinct (take i column)) old
+  module _ (few : length column ≤ max_dictionary_cardinality) where
+    pub taking-asks : length column ≤ length old.slots.now → i < length column → (s.held ≤ max_dictionary_cardinality) × (s.held < length s.slots.now)
+    taking-asks room h =
+        let most : s.held ≤ i = omega (arith, t.count, length-distinct (take i column), length-take i column) in
+        let long = ap length t.buffer ∙ length-stored (distinct (take i column)) old.slots.now (omega (arith, t.count)) in
+        (omega arith, omega arith)
 
-    held-most : held ≤ i
-    held-most = omega (arith, t.count, t.upto, length-distinct (take i column), length-take i column)
+    pub taking-fits : i < length column → (v : ℤ) → length (insert v (values_of s)) ≤ max_dictionary_cardinality
+    taking-fits h v = omega (arith, length-insert v (values_of s), ap length held-are, length-distinct (take i column), length-take i column)
 
-    pub taking-asks : i < length column → (held ≤ max_dictionary_cardinality) × (held < length s) × Rising (take held s)
-    taking-asks h = (omega (arith, held-most), omega (arith, held-most, t.long), rw held-are (distinct-rising (take i column)))
+    pub taking-done : length column ≤ i → (ok s.held ≡ count_outcome column) × (s.slots.now ≡ collected column old.slots.now)
+    taking-done h = counted column old.slots.now t.count (omega (arith, t.count, length-distinct (take i column), length-take i column)) t.buffer h
 
-    pub taking-more : i < length column → {v : ℤ} → v ≡ get_or column i (pos 0) → {many : ℕ} → many ≡ length (insert v (take held s))
-        → {after : List ℤ} → after ≡ stored (taken max_dictionary_cardinality v (take held s)) s → Taking after many (i + 1)
-    unfolding taken
-    taking-more h {v} e {many} m {after} a =
-        let next : insert v (take held s) ≡ distinct (take (i + 1) column) =
-        ap (λ (x : ℤ). insert x (take held s)) e ∙ ap (insert (get_or column i (pos 0))) held-are ∙ sym (distinct_more column i h) in
-        let fits : length (distinct (take (i + 1) column)) ≤ length old = omega (arith, length-distinct (take (i + 1) column), length-take (i + 1) column) in
-        let most : length (insert v (take held s)) ≤ max_dictionary_cardinality = omega (arith, fits, ap length next, length-distinct (take (i + 1) column), length-take (i + 1) column) in
-        let are : after ≡ stored (distinct (take (i + 1) column)) old =
-        a
-        ∙ ap (λ (b : Bool). stored (cond b (insert v (take held s)) (take held s)) s) (le-leb (length (insert v (take held s))) max_dictionary_cardinality most)
-        ∙ ap (λ (l : List ℤ). stored l s) next
-        ∙ ap (stored (distinct (take (i + 1) column))) t.are
-        ∙ stored-over (distinct (take i column)) (distinct (take (i + 1) column)) old (omega (arith, ap length next, ap length held-are, insert-grows v (take held s))) in
-        record { upto = omega arith; count = m ∙ ap length next; long = ap length are ∙ length-stored (distinct (take (i + 1) column)) old fits; are = are }
+  pub taking-more : i < length column → {v : ℤ} → v ≡ get_or column i (pos 0) → {next : Sorted} → Becomes s next (insert v (values_of s)) → Becomes old next (distinct (take (i + 1) column))
+  taking-more h {v} e {next} n =
+      let is : insert v (values_of s) ≡ distinct (take (i + 1) column) =
+      ap (λ (x : ℤ). insert x (values_of s)) e ∙ ap (insert (get_or column i (pos 0))) held-are ∙ sym (distinct_more column i h) in
+      becomes-then t (rw is at n) (omega (arith, ap length is, ap length held-are, insert-grows v (values_of s)))
 
-    pub taking-done : length column ≤ i → (ok held ≡ count_outcome column) × (s ≡ collected column old)
-    taking-done h = counted column old t.count (omega (arith, held-most, t.upto)) t.are h
+pub taking-none : (column : List ℤ) {s : Sorted} → s.held ≡ 0 → Becomes s s (distinct (take 0 column))
+unfolding distinct distinct_from stored
+taking-none column e = record { same_buffer = refl; buffer = refl; count = e }
 
 -- ---- many keys
 
-module _ (column old : List ℤ) where
+module _ (column : List ℤ) (old : Sorted) where
   -- the distinct values of the first i
   abbrev up_to : ℕ → List ℤ
   up_to i = distinct (take i column)
 
-  -- those of the first i keys are held at the front of the scratch s, or wait at the front of p; none is in both, every slot has a key that was met, and a key
-  -- whose slot is vacant was not
-  pub record Gathering (s p seen : List ℤ) (held waiting i : ℕ) : Type 0 where
+  abbrev first : ℤ
+  first = get_or column 0 (pos 0)
+
+  -- those of the first i keys are held or wait; none does both, every slot has a key that was met, and a key whose slot is vacant was not
+  pub record Gathering (held waiting : Sorted) (seen : Seen) (i : ℕ) : Type 0 where
     pub upto : i ≤ length column
-    pub few : held + waiting ≤ max_dictionary_cardinality
-    pub space : waiting ≤ length p
-    pub long : length s ≡ length old
-    pub after : s ≡ stored (take held s) old
-    pub front : Rising (take held s)
-    pub rest : Rising (take waiting p)
-    pub both : distinct_from (take held s) (take waiting p) ≡ up_to i
-    pub count : held + waiting ≡ length (up_to i)
-    pub slots : 0 < length seen
-    pub met : (k : ℕ) → k < length seen → has (up_to i) (get_or seen k (pos 0)) ≡ true
-    pub free : (x : ℤ) → vacant seen (get_or column 0 (pos 0)) x ≡ true → has (up_to i) x ≡ false
+    pub few : held.held + waiting.held ≤ max_dictionary_cardinality
+    pub front : Becomes old held (values_of held)
+    pub both : distinct_from (values_of held) (values_of waiting) ≡ up_to i
+    pub count : held.held + waiting.held ≡ length (up_to i)
+    pub met : (k : ℕ) → k < length seen.slots.now → has (up_to i) (get_or seen.slots.now k (pos 0)) ≡ true
+    pub free : (x : ℤ) → vacant seen.slots.now seen.first x ≡ true → has (up_to i) x ≡ false
 
   -- the first key waits, and is in every slot
-  pub gathering-first : 0 < length column → {p seen : List ℤ} → 1 < length p → 0 < length seen → get_or p 0 (pos 0) ≡ get_or column 0 (pos 0)
-      → ((k : ℕ) → k < length seen → get_or seen k (pos 0) ≡ get_or column 0 (pos 0)) → Gathering old p seen 0 1 1
+  pub gathering-first : 0 < length column → old.held ≡ 0 → {waiting : Sorted} {seen : Seen} (pending : List ℤ) {v : ℤ} → waiting.slots.now ≡ stored (v ∷ []) pending → waiting.held ≡ 1 → v ≡ first
+      → seen.first ≡ first → ((k : ℕ) → k < length seen.slots.now → get_or seen.slots.now k (pos 0) ≡ first) → Gathering old waiting seen 1
   unfolding distinct distinct_from insert has stored
-  gathering-first some {p} {seen} n m e all =
-      let first : take 1 column ≡ get_or column 0 (pos 0) ∷ [] = take-suc column 0 (pos 0) some in
-      let wait : take 1 p ≡ take 1 column = take-suc p 0 (pos 0) (omega arith) ∙ ap (λ (v : ℤ). v ∷ []) e ∙ sym first in
+  gathering-first some none {waiting} {seen} pending {v} w n e b all =
+      let one : take 1 column ≡ first ∷ [] = take-suc column 0 (pos 0) some in
+      let wait : values_of waiting ≡ first ∷ [] = front_stored (v ∷ []) pending w n ∙ ap (λ (x : ℤ). x ∷ []) e in
+      let empty : values_of old ≡ [] = ap (λ (k : ℕ). take k old.slots.now) none in
       record {
         upto = omega arith;
-        few = omega arith;
-        space = omega arith;
-        long = refl;
-        after = refl;
-        front = tt;
-        rest = rw (wait, first) (tt, tt);
-        both = ap (distinct_from []) wait;
-        count = rw first;
-        slots = m;
-        met = λ k h. rw (first, all k h) (ap (λ (t : Bool). t || false) (eq_z-self (get_or column 0 (pos 0))));
-        free = λ x f. rw first (ap (λ (t : Bool). t || false) (vacant-other seen (get_or column 0 (pos 0)) x f));
+        few = omega (arith, none, n);
+        front = record { same_buffer = refl; buffer = same_front old.slots.now old.held old.inside; count = none ∙ sym (ap length empty) };
+        both = rw (empty, wait, one) refl;
+        count = rw (none, n, one) refl;
+        met = λ k h. rw (one, all k h) (ap (λ (t : Bool). t || false) (eq_z-self first));
+        free = λ x f. rw one (ap (λ (t : Bool). t || false) (ap (λ (y : ℤ). eq_z y x) (sym b) ∙ vacant-other seen.slots.now seen.first x f));
       }
 
-  module _ (needed : scratch_needed column ≤ length old) {s p seen : List ℤ} {held waiting i : ℕ} (g : Gathering s p seen held waiting i) where
+  module _ (needed : scratch_needed column ≤ length old.slots.now) {held waiting : Sorted} {seen : Seen} {i : ℕ} (g : Gathering held waiting seen i) where
+    many : (length (values_of held) ≡ held.held) × (length (values_of waiting) ≡ waiting.held)
+    many = (length-take-le held.held held.slots.now held.inside, length-take-le waiting.held waiting.slots.now waiting.inside)
+
     -- there is room for all that wait
-    gathering-room : held + waiting ≤ length s
-    gathering-room = omega (arith, g.count, g.few, g.long, g.upto, length-distinct (take i column), length-take i column)
+    room : held.held + waiting.held ≤ length old.slots.now
+    room = omega (arith, g.count, g.few, g.upto, length-distinct (take i column), length-take i column)
 
-    many : (length (take held s) ≡ held) × (length (take waiting p) ≡ waiting)
-    many = (length-take-le held s (omega (arith, gathering-room)), length-take-le waiting p g.space)
+    long : length held.slots.now ≡ length old.slots.now
+    long = ap length g.front.buffer ∙ length-stored (values_of held) old.slots.now (omega (arith, room, many.0))
 
-    pub gathering-asks : (held ≤ length s) × (waiting ≤ max_dictionary_cardinality - held)
-    gathering-asks = (omega (arith, gathering-room), omega (arith, g.few))
+    pub gathering-asks : waiting.held ≤ max_dictionary_cardinality - held.held
+    gathering-asks = omega (arith, g.few)
 
     -- ---- merging
 
-    pub gathering-merges : Mergeable s held (take waiting p)
-    gathering-merges =
-        record {
-          room = omega (arith, gathering-room, many.1);
-          front = g.front;
-          rest = g.rest;
-          apart = ap length g.both ∙ omega (arith, g.count, many.1);
-        }
+    pub gathering-merges : (held.held + waiting.held ≤ length held.slots.now) × (length (distinct_from (values_of held) (values_of waiting)) ≡ held.held + waiting.held)
+    gathering-merges = (omega (arith, room, long), ap length g.both ∙ sym g.count)
 
-    module _ {after : List ℤ} (m : after ≡ merged s held (take waiting p)) where
-      pub merged-are : after ≡ stored (up_to i) old
-      unfolding merged stored
-      merged-are =
-          let n : held + length (take waiting p) ≡ length (up_to i) = omega (arith, g.count, many.1) in
-          m
-          ∙ ap (λ (l : List ℤ). l ++ drop (held + length (take waiting p)) s) g.both
-          ∙ ap (λ (k : ℕ). up_to i ++ drop k s) n
-          ∙ ap (stored (up_to i)) g.after
-          ∙ stored-over (take held s) (up_to i) old (omega (arith, g.count, many.0))
+    module _ {after : Sorted} (m : Becomes held after (distinct_from (values_of held) (values_of waiting))) where
+      merged : Becomes old after (up_to i)
+      merged = becomes-then g.front (rw g.both at m) (omega (arith, many.0, g.count))
 
-      pub gathering-merged : Gathering after p seen (held + waiting) 0 i
+      pub gathering-merged : {next : Sorted} → next.held ≡ 0 → Gathering after next seen i
       unfolding distinct_from
-      gathering-merged =
-          let front : take (held + waiting) after ≡ up_to i =
-          ap (λ (k : ℕ). take k after) g.count ∙ ap (take (length (up_to i))) merged-are ∙ take-stored (up_to i) old in
+      gathering-merged {next} n =
+          let is : values_of after ≡ up_to i = front_stored (up_to i) old.slots.now merged.buffer merged.count in
+          let none : values_of next ≡ [] = ap (λ (k : ℕ). take k next.slots.now) n in
           record {
             upto = g.upto;
-            few = omega (arith, g.few);
-            space = omega arith;
-            long = ap length merged-are ∙ length-stored (up_to i) old (omega (arith, gathering-room, g.count, g.long));
-            after = merged-are ∙ ap (λ (l : List ℤ). stored l old) (sym front);
-            front = rw front (distinct-rising (take i column));
-            rest = tt;
-            both = front;
-            count = omega (arith, g.count);
-            slots = g.slots;
+            few = omega (arith, g.few, merged.count, g.count, n);
+            front = rw is merged;
+            both = rw none is;
+            count = omega (arith, merged.count, n);
             met = g.met;
             free = g.free;
           }
 
       -- all keys
-      pub gathering-done : length column ≤ i → (ok (held + waiting) ≡ count_outcome column) × (after ≡ collected column old)
-      gathering-done h = counted column old g.count g.few merged-are h
+      pub gathering-done : length column ≤ i → (ok after.held ≡ count_outcome column) × (after.slots.now ≡ collected column old.slots.now)
+      gathering-done h = counted column old.slots.now merged.count (omega (arith, merged.count, g.count, g.few)) merged.buffer h
+
+    -- a buffer that was left as it was
+    pub gathering-stays : {w : Sorted} → Becomes waiting w (values_of waiting) → Gathering held w seen i
+    gathering-stays {w} a =
+        let is : values_of w ≡ values_of waiting = front_stored (values_of waiting) waiting.slots.now a.buffer a.count in
+        record {
+          upto = g.upto;
+          few = omega (arith, g.few, a.count, many.1);
+          front = g.front;
+          both = rw is g.both;
+          count = omega (arith, g.count, a.count, many.1);
+          met = g.met;
+          free = g.free;
+        }
 
     -- ---- a key more
 
@@ -233,188 +220,136 @@ module _ (column old : List ℤ) where
       next : up_to (i + 1) ≡ insert v (up_to i)
       next = distinct_more column i h ∙ ap (λ (x : ℤ). insert x (up_to i)) (sym e)
 
-      rising : Rising (up_to i)
-      rising = distinct-rising (take i column)
-
       -- what was met is not new
       known : has (up_to i) v ≡ true → up_to (i + 1) ≡ up_to i
-      known t = next ∙ insert-had v (up_to i) rising t
+      known t = next ∙ insert-had v (up_to i) (distinct-rising (take i column)) t
 
       -- what is held, or waits, was met
-      has-held : has (up_to i) v ≡ (has (take held s) v || has (take waiting p) v)
-      has-held = ap (λ (l : List ℤ). has l v) (sym g.both) ∙ has_both (take held s) (take waiting p) v
-
-      -- a key whose slot is vacant is not held, so none of the values held need be asked
-      module _ {asked : ℕ} (k : asked ≡ cond (vacant seen (get_or column 0 (pos 0)) v) 0 held) where
-        pub gathering-part : (asked ≤ length s) × Rising (take asked s)
-        gathering-part = rw k (go (vacant seen (get_or column 0 (pos 0)) v))
-          where
-            go : (t : Bool) → (cond t 0 held ≤ length s) × Rising (take (cond t 0 held) s)
-            go true = (omega arith, tt)
-            go false = (omega (arith, gathering-room), g.front)
-
-        part-has : has (take asked s) v ≡ has (take held s) v
-        part-has = ap (λ (n : ℕ). has (take n s) v) k ∙ go (vacant seen (get_or column 0 (pos 0)) v) refl
-          where
-            or_left : (a b : Bool) → (a || b) ≡ false → a ≡ false
-            or_left true b f = f
-            or_left false b f = refl
-
-            go : (t : Bool) → vacant seen (get_or column 0 (pos 0)) v ≡ t → has (take (cond t 0 held) s) v ≡ has (take held s) v
-            go true f = has-none v ∙ sym (or_left (has (take held s) v) (has (take waiting p) v) (sym has-held ∙ g.free v f))
-            go false f = refl
-
-        pub gathering-asked : (cap : ℕ) {more : ℕ} {q : List ℤ} → more ≡ gathered_count (take asked s) v (take waiting p) → q ≡ stored (gathered cap (take asked s) v (take waiting p)) p
-            → (more ≡ gathered_count (take held s) v (take waiting p)) × (q ≡ stored (gathered cap (take held s) v (take waiting p)) p)
-        unfolding gathered_count gathered
-        gathering-asked cap m a = (rw part-has at m, rw part-has at a)
+      has-held : has (up_to i) v ≡ (has (values_of held) v || has (values_of waiting) v)
+      has-held = ap (λ (l : List ℤ). has l v) (sym g.both) ∙ has_both (values_of held) (values_of waiting) v
 
       -- the table once the key is in its slot
-      module _ {table : List ℤ} (t : table ≡ set seen (slot_of v (length seen)) v) where
-        slot : slot_of v (length seen) < length seen
-        slot = slot_lt v g.slots
+      module _ {table : Seen} (t : Noted seen table v) where
+        abbrev here : ℕ
+        here = slot_of v (length seen.slots.now)
 
-        table-long : length table ≡ length seen
-        table-long = ap length t ∙ length-set seen (slot_of v (length seen)) v
+        slot : here < length seen.slots.now
+        slot = slot_lt v seen.some
 
-        met_next : (k : ℕ) → k < length table → has (up_to (i + 1)) (get_or table k (pos 0)) ≡ true
-        met_next k l = rw next (go (eqb k (slot_of v (length seen))) refl)
+        table-long : length table.slots.now ≡ length seen.slots.now
+        table-long = ap length t.slots ∙ length-set seen.slots.now here v
+
+        met_next : (k : ℕ) → k < length table.slots.now → has (up_to (i + 1)) (get_or table.slots.now k (pos 0)) ≡ true
+        met_next k l = rw next (go (eqb k here) refl)
           where
-            at : get_or table k (pos 0) ≡ get_or (set seen (slot_of v (length seen)) v) k (pos 0)
-            at = ap (λ (x : List ℤ). get_or x k (pos 0)) t
+            there : get_or table.slots.now k (pos 0) ≡ get_or (set seen.slots.now here v) k (pos 0)
+            there = ap (λ (x : List ℤ). get_or x k (pos 0)) t.slots
 
-            go : (b : Bool) → eqb k (slot_of v (length seen)) ≡ b → has (insert v (up_to i)) (get_or table k (pos 0)) ≡ true
+            go : (b : Bool) → eqb k here ≡ b → has (insert v (up_to i)) (get_or table.slots.now k (pos 0)) ≡ true
             go true f =
-                let is : get_or table k (pos 0) ≡ v =
-                at
-                ∙ ap (λ (n : ℕ). get_or (set seen (slot_of v (length seen)) v) n (pos 0)) (eqb-true k (slot_of v (length seen)) f)
-                ∙ get_or-set_same seen (slot_of v (length seen)) v (pos 0) slot in
+                let is : get_or table.slots.now k (pos 0) ≡ v =
+                there ∙ ap (λ (n : ℕ). get_or (set seen.slots.now here v) n (pos 0)) (eqb-true k here f) ∙ get_or-set_same seen.slots.now here v (pos 0) slot in
                 rw is (has_new v (up_to i))
             go false f =
-                let is : get_or table k (pos 0) ≡ get_or seen k (pos 0) = at ∙ get_or-set_other seen (slot_of v (length seen)) k v (pos 0) (eqb-false k (slot_of v (length seen)) f) in
-                rw is (has-still v (up_to i) (get_or seen k (pos 0)) (g.met k (omega (arith, table-long))))
+                let is : get_or table.slots.now k (pos 0) ≡ get_or seen.slots.now k (pos 0) = there ∙ get_or-set_other seen.slots.now here k v (pos 0) (eqb-false k here f) in
+                rw is (has-still v (up_to i) (get_or seen.slots.now k (pos 0)) (g.met k (omega (arith, table-long))))
 
-        free-next : (x : ℤ) → vacant table (get_or column 0 (pos 0)) x ≡ true → has (up_to (i + 1)) x ≡ false
+        free-next : (x : ℤ) → vacant table.slots.now table.first x ≡ true → has (up_to (i + 1)) x ≡ false
         free-next x f =
-            let b = vacant-before seen (get_or column 0 (pos 0)) x v g.slots t f in
+            let b = vacant-before seen.slots.now seen.first x v seen.some t.slots (ap (λ (y : ℤ). vacant table.slots.now y x) (sym t.first) ∙ f) in
             ap (λ (l : List ℤ). has l x) next ∙ has-insert v (up_to i) x ∙ rw (b.0, g.free x b.1)
 
-        -- it was there before
-        pub gathering-known : {r : Bool} → r ≡ eq_z (get_or seen (slot_of v (length seen)) (pos 0)) v → r ≡ true → Gathering s p table held waiting (i + 1)
+        -- with those that wait then
+        waits : (w : Sorted) → distinct_from (values_of held) (values_of w) ≡ up_to (i + 1) → held.held + w.held ≡ length (up_to (i + 1)) → held.held + w.held ≤ max_dictionary_cardinality
+            → Gathering held w table (i + 1)
+        waits w both count few =
+            record { upto = omega arith; few = few; front = g.front; both = both; count = count; met = met_next; free = free-next }
+
+        -- it was met before
+        pub gathering-met : has (up_to i) v ≡ true → Gathering held waiting table (i + 1)
+        gathering-met had = let still = known had in waits waiting (g.both ∙ sym still) (g.count ∙ ap length (sym still)) g.few
+
+        pub gathering-known : {r : Bool} → r ≡ eq_z (get_or seen.slots.now here (pos 0)) v → r ≡ true → Gathering held waiting table (i + 1)
         gathering-known a b =
-            let is = eq_z-true (get_or seen (slot_of v (length seen)) (pos 0)) v (sym a ∙ b) in
-            let had : has (up_to i) v ≡ true = ap (has (up_to i)) (sym is) ∙ g.met (slot_of v (length seen)) slot in
-            let still = known had in
-            record {
-              upto = omega arith;
-              few = g.few;
-              space = g.space;
-              long = g.long;
-              after = g.after;
-              front = g.front;
-              rest = g.rest;
-              both = g.both ∙ sym still;
-              count = g.count ∙ ap length (sym still);
-              slots = omega (arith, g.slots, table-long);
-              met = met_next;
-              free = free-next;
-            }
+            let is = eq_z-true (get_or seen.slots.now here (pos 0)) v (sym a ∙ b) in
+            gathering-met (ap (has (up_to i)) (sym is) ∙ g.met here slot)
 
-        module _ {more : ℕ} (m : more ≡ gathered_count (take held s) v (take waiting p)) {q : List ℤ}
-            (a : q ≡ stored (gathered (max_dictionary_cardinality - held) (take held s) v (take waiting p)) p) where
-          -- with w those that wait then
-          waits : (w : List ℤ) → q ≡ stored w p → more ≡ length w → length w ≤ length p → Rising w → distinct_from (take held s) w ≡ up_to (i + 1)
-              → held + length w ≡ length (up_to (i + 1)) → more ≤ max_dictionary_cardinality - held → Gathering s q table held more (i + 1)
-          waits w is many fits r whole count few =
-              let front : take more q ≡ w = ap (λ (n : ℕ). take n q) many ∙ ap (take (length w)) is ∙ take-stored w p in
-              record {
-                upto = omega arith;
-                few = omega (arith, gathering-asks.1, g.few);
-                space = omega (arith, ap length is ∙ length-stored w p fits);
-                long = g.long;
-                after = g.after;
-                front = g.front;
-                rest = rw front r;
-                both = ap (distinct_from (take held s)) front ∙ whole;
-                count = omega arith;
-                slots = omega (arith, g.slots, table-long);
-                met = met_next;
-                free = free-next;
-              }
+        pub gathering-held : has (values_of held) v ≡ true → Gathering held waiting table (i + 1)
+        gathering-held b = gathering-met (has-held ∙ ap (λ (t : Bool). t || has (values_of waiting) v) b)
 
-          -- a key that is held
-          module _ (b : has (take held s) v ≡ true) where
-            held-still : up_to (i + 1) ≡ up_to i
-            held-still = known (has-held ∙ ap (λ (t : Bool). t || has (take waiting p) v) b)
-
-            held-told : (more ≡ length (take waiting p)) × (q ≡ stored (take waiting p) p)
-            unfolding gathered gathered_count
-            held-told = (rw b at m, rw b at a)
-
-          -- one that is not
-          module _ (b : has (take held s) v ≡ false) where
-            new_told : (more ≡ length (insert v (take waiting p))) × (q ≡ stored (taken (max_dictionary_cardinality - held) v (take waiting p)) p)
-            unfolding gathered gathered_count
-            new_told = (rw b at m, rw b at a)
-
-            -- as many more are met as wait
-            new-count : held + length (insert v (take waiting p)) ≡ length (up_to (i + 1))
-            new-count = go (has (take waiting p) v) refl
-              where
-                go : (t : Bool) → has (take waiting p) v ≡ t → held + length (insert v (take waiting p)) ≡ length (up_to (i + 1))
-                go true w =
-                    let same = ap length (insert-had v (take waiting p) g.rest w) in
-                    let still = ap length (known (has-held ∙ rw (b, w))) in
-                    omega (arith, same, still, g.count, many.1)
-                go false w =
-                    let longer = insert-more v (take waiting p) w in
-                    let next-longer = ap length next ∙ insert-more v (up_to i) (has-held ∙ rw (b, w)) in
-                    omega (arith, longer, next-longer, g.count, many.1)
-
-          pub gathering-taken : waiting < length p → more ≤ max_dictionary_cardinality - held → Gathering s q table held more (i + 1)
-          unfolding taken
-          gathering-taken space few = go (has (take held s) v) refl
+        -- one that is not held
+        module _ (b : has (values_of held) v ≡ false) where
+          -- as many more are met as wait
+          new-count : held.held + length (insert v (values_of waiting)) ≡ length (up_to (i + 1))
+          new-count = go (has (values_of waiting) v) refl
             where
-              go : (t : Bool) → has (take held s) v ≡ t → Gathering s q table held more (i + 1)
-              go true b =
-                  let still = held-still b in
-                  waits (take waiting p) (held-told b).1 (held-told b).0 (omega (arith, many.1)) g.rest (g.both ∙ sym still) (omega (arith, many.1, g.count, ap length still)) few
-              go false b =
-                  let n = new_told b in
-                  let fits = le-leb (length (insert v (take waiting p))) (max_dictionary_cardinality - held) (omega (arith, n.0)) in
-                  let is = n.1 ∙ ap (λ (t : Bool). stored (cond t (insert v (take waiting p)) (take waiting p)) p) fits in
-                  waits (insert v (take waiting p)) is n.0 (omega (arith, length-insert v (take waiting p), many.1)) (insert-rising v (take waiting p) g.rest)
-                  (insert-into v (take held s) (take waiting p) ∙ ap (insert v) g.both ∙ sym next) (new-count b) few
+              go : (t : Bool) → has (values_of waiting) v ≡ t → held.held + length (insert v (values_of waiting)) ≡ length (up_to (i + 1))
+              go true w =
+                  let same = ap length (insert-had v (values_of waiting) waiting.rising w) in
+                  let still = ap length (known (has-held ∙ rw (b, w))) in
+                  omega (arith, same, still, g.count, many.1)
+              go false w =
+                  let longer = insert-more v (values_of waiting) w in
+                  let next-longer = ap length next ∙ insert-more v (up_to i) (has-held ∙ rw (b, w)) in
+                  omega (arith, longer, next-longer, g.count, many.1)
 
-          -- one too many: those that wait are as they were
-          module _ (over : max_dictionary_cardinality - held < more) where
-            new-key : has (take held s) v ≡ false
-            new-key = go (has (take held s) v) refl
-              where
-                go : (t : Bool) → has (take held s) v ≡ t → t ≡ false
-                go true b = absurd (omega (arith, (held-told b).0, many.1, gathering-asks.1))
-                go false b = refl
+          pub gathering-taken : {w : Sorted} → (length (insert v (values_of waiting)) ≤ max_dictionary_cardinality - held.held) × Becomes waiting w (insert v (values_of waiting)) → Gathering held w table (i + 1)
+          gathering-taken {w} a =
+              let is : values_of w ≡ insert v (values_of waiting) = front_stored (insert v (values_of waiting)) waiting.slots.now a.1.buffer a.1.count in
+              waits w
+              (ap (distinct_from (values_of held)) is ∙ insert-into v (values_of held) (values_of waiting) ∙ ap (insert v) g.both ∙ sym next)
+              (ap (λ (n : ℕ). held.held + n) a.1.count ∙ new-count)
+              (omega (arith, a.0, a.1.count, g.few))
 
-            stays : q ≡ p
-            unfolding taken
-            stays =
-                let n = new_told new-key in
-                let more-than = lt-leb (length (insert v (take waiting p))) (max_dictionary_cardinality - held) (omega (arith, n.0)) in
-                n.1
-                ∙ ap (λ (t : Bool). stored (cond t (insert v (take waiting p)) (take waiting p)) p) more-than
-                ∙ sym (same_front p waiting g.space)
+          -- one too many
+          pub gathering-full : max_dictionary_cardinality - held.held < length (insert v (values_of waiting)) → {w after : Sorted} → Becomes waiting w (values_of waiting)
+              → Becomes held after (distinct_from (values_of held) (values_of w)) → (refused 23 0 ≡ count_outcome column) × (after.slots.now ≡ collected column old.slots.now)
+          unfolding collected count_outcome
+          gathering-full over {w} {after} a f =
+              let still : values_of w ≡ values_of waiting = front_stored (values_of waiting) waiting.slots.now a.buffer a.count in
+              let m = merged (rw still at f) in
+              let full : length (up_to i) ≡ max_dictionary_cardinality = omega (arith, over, length-insert v (values_of waiting), many.1, g.few, g.count) in
+              let all : take i column ++ drop i column ≡ column = take-append-drop i column in
+              let first = rw all at (capped_distinct-first (take i column) (drop i column) full) in
+              let too = too_many_distinct-is column (omega (arith, over, new-count, g.few, distinct-part (i + 1) column)) in
+              (rw too, m.buffer ∙ ap (λ (l : List ℤ). stored l old.slots.now) (sym first))
 
-            pub gathering-stays : (waiting ≤ length q) × Mergeable s held (take waiting q)
-            gathering-stays = rw stays (g.space, gathering-merges)
+-- the buffer is as long as it was
+pub taken-long : {waiting w : Sorted} → waiting.held < length waiting.slots.now → (v : ℤ) → Becomes waiting w (insert v (values_of waiting)) → length w.slots.now ≡ length waiting.slots.now
+taken-long {waiting} h v a =
+    ap length a.buffer ∙ length-stored (insert v (values_of waiting)) waiting.slots.now (omega (arith, length-insert v (values_of waiting), length-take-le waiting.held waiting.slots.now waiting.inside))
 
-            pub gathering-full : {after : List ℤ} → after ≡ merged s held (take waiting q) → (refused 23 0 ≡ count_outcome column) × (after ≡ collected column old)
-            unfolding collected count_outcome
-            gathering-full {after} f =
-                let n = new_told new-key in
-                let full : length (up_to i) ≡ max_dictionary_cardinality = omega (arith, n.0, length-insert v (take waiting p), many.1, g.few, g.count) in
-                let all : take i column ++ drop i column ≡ column = take-append-drop i column in
-                let first = rw all at (capped_distinct-first (take i column) (drop i column) full) in
-                let too = too_many_distinct-is column (omega (arith, n.0, new-count new-key, distinct-part (i + 1) column)) in (
-                  rw too,
-                  merged-are (f ∙ ap (λ (l : List ℤ). merged s held (take waiting l)) stays) ∙ ap (λ (l : List ℤ). stored l old) (sym first),
-                )
+pub cleared-long : {waiting w : Sorted} → Becomes waiting w [] → length w.slots.now ≡ length waiting.slots.now
+unfolding stored
+cleared-long a = ap length a.buffer
+
+-- what is found in a list
+pub has_found : (r : Result ℕ ℕ) (code : ℕ) {b : Bool} → IfOk r (λ at. (at ≡ code) × (b ≡ true)) → IfErr r (λ at. (at ≡ code) × (b ≡ false)) → b ≡ is_ok r
+has_found (Ok at) code f g = f.1
+has_found (Err at) code f g = g.1
+
+-- a key whose slot is vacant is not held, so none of the values held need be asked
+module _ (column : List ℤ) (old : Sorted) {held waiting : Sorted} {seen : Seen} {i : ℕ} (g : Gathering column old held waiting seen i) (v : ℤ)
+    {asked values : List ℤ} (k : asked ≡ cond (vacant seen.slots.now seen.first v) [] values) (is : values ≡ values_of held) where
+  asks : asked ≡ cond (vacant seen.slots.now seen.first v) [] (values_of held)
+  asks = k ∙ ap (cond (vacant seen.slots.now seen.first v) []) is
+
+  pub asked-rising : Rising asked
+  asked-rising = rw asks (go (vacant seen.slots.now seen.first v))
+    where
+      go : (t : Bool) → Rising (cond t [] (values_of held))
+      go true = tt
+      go false = held.rising
+
+  pub asked_has : has asked v ≡ has (values_of held) v
+  asked_has = ap (λ (l : List ℤ). has l v) asks ∙ go (vacant seen.slots.now seen.first v) refl
+    where
+      or_left : (a b : Bool) → (a || b) ≡ false → a ≡ false
+      or_left true b f = f
+      or_left false b f = refl
+
+      go : (t : Bool) → vacant seen.slots.now seen.first v ≡ t → has (cond t [] (values_of held)) v ≡ has (values_of held) v
+      go true f =
+          has-none v
+          ∙ sym (or_left (has (values_of held) v) (has (values_of waiting) v) (sym (ap (λ (l : List ℤ). has l v) (sym g.both) ∙ has_both (values_of held) (values_of waiting) v) ∙ g.free v f))
+      go false f = refl

@@ -1,145 +1,90 @@
--- A key taken in by its code: where it stands at its code nothing changes; else what stands from there on goes up by one place. So the front of the scratch becomes
--- format's `insert`, and the rest stays.
+-- A key taken in at its code: one that is there changes nothing; else what stands from its code on goes up by one place. So the front of the buffer becomes format's `insert`,
+-- and the rest stays.
 use mathlib.Core.Path.{◌≡◌, refl, sym, ap, ◌∙◌}
-use mathlib.Core.Bool.{Bool, true, false, cond}
+use mathlib.Core.Bool.{Bool, true, false, ◌||◌}
 use mathlib.Core.List.{List, [], ◌∷◌, ◌++◌, append_assoc}
-use Prim.Native.Nat.{ℕ, suc, ◌+◌, ◌≤◌, ◌<◌, suc-le-suc, zero-le}
-use native.Mathlib.Nat.{le_of_suc-le-suc}
+use Prim.Native.Nat.{ℕ, suc, ◌+◌, ◌≤◌, ◌<◌}
 use native.Mathlib.Numerals.{add-one}
 use native.Mathlib.Omega.{arith}
-use lib.IntN.{ℤ, pos}
-use lib.Dec.{leb}
-use lib.Signed.{lt_z}
-use lib.ListN.{length, get_or, take, drop, length-append, take-append-drop}
-use lib.Seq.{slice, length-take-le, length-slice, take-take}
-use borrow.Author.Tests.{le-leb, lt-leb}
+use lib.IntN.{ℤ}
+use lib.ListN.{length, set, take, drop, take-append-drop}
+use lib.Seq.{slice, length-take-le, take-take}
 use Rattle.format.specs.Keys.{eq_z}
 use Rattle.format.specs.Answers.{stored}
-use Rattle.format.specs.Distinct.{insert}
+use Rattle.format.specs.Distinct.{insert, Rising}
 use Rattle.format.specs.Dictionary.{code_of}
-use Rattle.format.proofs.Numbers.Order.{lt_z-neither, lt_z-self}
-use Rattle.distinct.specs.Collect.{taken}
-use Rattle.distinct.specs.Search.{stands_at}
+use Rattle.format.proofs.Plan.Checks.{take-stored}
+use Rattle.distinct.specs.Collect.{has}
 use Rattle.distinct.proofs.Codes.{code-le}
-use Rattle.distinct.proofs.Members.{eq_z-self}
-use Rattle.distinct.proofs.Standing.{stands-value, stands-other}
+use Rattle.distinct.proofs.Members.{Ordered, less, same, greater, ordered, eq_z-self, insert-had, insert-more, not-above}
 use Rattle.distinct.proofs.Shifting.{opened}
 
--- ---- the key and the value at its code
-
--- what is neither less nor the key is greater
-above : (v key : ℤ) → lt_z v key ≡ false → eq_z v key ≡ false → lt_z key v ≡ true
-above v key h k = go (lt_z key v) refl
-  where
-    go : (t : Bool) → lt_z key v ≡ t → t ≡ true
-    go true e = refl
-    go false e =
-        let same : eq_z v v ≡ false = ap (eq_z v) (lt_z-neither v key h e) ∙ k in
-        cc (eq_z-self v)
-
--- the value at the code is not less
-code_at : (key : ℤ) (xs : List ℤ) → code_of xs key < length xs → lt_z (get_or xs (code_of xs key) (pos 0)) key ≡ false
-unfolding code_of
-code_at key [] h = absurd (omega arith)
-code_at key (x ∷ xs) h = go (lt_z x key) refl h (code_at key xs)
-  where
-    go : (t : Bool) → lt_z x key ≡ t → cond t (suc (code_of xs key)) 0 < suc (length xs)
-        → (code_of xs key < length xs → lt_z (get_or xs (code_of xs key) (pos 0)) key ≡ false)
-        → lt_z (get_or (x ∷ xs) (cond t (suc (code_of xs key)) 0) (pos 0)) key ≡ false
-    go true e h i = i (le_of_suc-le-suc h)
-    go false e h i = e
-
--- ---- insertion by the code
-
--- a greater value, or none, at the code: the key goes before it
-insert-new : (key : ℤ) (xs : List ℤ) → (code_of xs key < length xs → lt_z key (get_or xs (code_of xs key) (pos 0)) ≡ true)
-    → insert key xs ≡ take (code_of xs key) xs ++ (key ∷ drop (code_of xs key) xs)
-unfolding code_of insert
+-- a key that is not there goes in at its code
+insert-new : (key : ℤ) (xs : List ℤ) → has xs key ≡ false → insert key xs ≡ take (code_of xs key) xs ++ (key ∷ drop (code_of xs key) xs)
+unfolding code_of insert has
 insert-new key [] h = refl
-insert-new key (x ∷ xs) h = go (lt_z x key) h (insert-new key xs)
+insert-new key (x ∷ xs) h = go (ordered key x) (eq_z x key) refl h (insert-new key xs)
   where
-    go : (t : Bool) → (cond t (suc (code_of xs key)) 0 < suc (length xs) → lt_z key (get_or (x ∷ xs) (cond t (suc (code_of xs key)) 0) (pos 0)) ≡ true)
-        → ((code_of xs key < length xs → lt_z key (get_or xs (code_of xs key) (pos 0)) ≡ true) → insert key xs ≡ take (code_of xs key) xs ++ (key ∷ drop (code_of xs key) xs))
-        → cond t (x ∷ insert key xs) (cond (lt_z key x) (key ∷ x ∷ xs) (x ∷ xs))
-        ≡ take (cond t (suc (code_of xs key)) 0) (x ∷ xs) ++ (key ∷ drop (cond t (suc (code_of xs key)) 0) (x ∷ xs))
-    go true h i = ap (λ (l : List ℤ). x ∷ l) (i (λ k. h (suc-le-suc k)))
-    go false h i = rw (h (suc-le-suc zero-le))
+    go : Ordered key x → (t : Bool) → eq_z x key ≡ t → (t || has xs key) ≡ false → (has xs key ≡ false → insert key xs ≡ take (code_of xs key) xs ++ (key ∷ drop (code_of xs key) xs))
+        → insert key (x ∷ xs) ≡ take (code_of (x ∷ xs) key) (x ∷ xs) ++ (key ∷ drop (code_of (x ∷ xs) key) (x ∷ xs))
+    go o true e h i = let z : ◌≡◌ {A = ℕ} 0 1 = cc in absurd (omega arith)
+    go (less a) false e h i = rw (not-above key x a, a)
+    go (same f) false e h i = let g : eq_z x x ≡ false = ap (eq_z x) (sym f) ∙ e in let z : ◌≡◌ {A = ℕ} 0 1 = cc (eq_z-self x) in absurd (omega arith)
+    go (greater b) false e h i = rw b (ap (λ (l : List ℤ). x ∷ l) (i h))
 
--- the key itself at its code: it is there
-insert-known : (key : ℤ) (xs : List ℤ) → code_of xs key < length xs → lt_z key (get_or xs (code_of xs key) (pos 0)) ≡ false → insert key xs ≡ xs
-unfolding code_of insert
-insert-known key [] l h = absurd (omega arith)
-insert-known key (x ∷ xs) l h = go (lt_z x key) l h (insert-known key xs)
-  where
-    go : (t : Bool) → cond t (suc (code_of xs key)) 0 < suc (length xs) → lt_z key (get_or (x ∷ xs) (cond t (suc (code_of xs key)) 0) (pos 0)) ≡ false
-        → (code_of xs key < length xs → lt_z key (get_or xs (code_of xs key) (pos 0)) ≡ false → insert key xs ≡ xs)
-        → cond t (x ∷ insert key xs) (cond (lt_z key x) (key ∷ x ∷ xs) (x ∷ xs)) ≡ x ∷ xs
-    go true l h i = ap (λ (r : List ℤ). x ∷ r) (i (le_of_suc-le-suc l) h)
-    go false l h i = rw h
-
--- ---- the scratch
+-- ---- a buffer's front
 
 -- with its own front a list is as it was
 pub same_front : (s : List ℤ) (held : ℕ) → held ≤ length s → s ≡ stored (take held s) s
 unfolding stored
 same_front s held h = sym (ap (λ (n : ℕ). take held s ++ drop n s) (length-take-le held s h) ∙ take-append-drop held s)
 
-module _ (s : List ℤ) (held cap at : ℕ) (key : ℤ) (room : held ≤ length s) (code : at ≡ code_of (take held s) key) where
+-- the values that were put there
+pub front_stored : (values s : List ℤ) {after : List ℤ} {n : ℕ} → after ≡ stored values s → n ≡ length values → take n after ≡ values
+front_stored values s {after} {n} e f = ap (λ (k : ℕ). take k after) f ∙ ap (take (length values)) e ∙ take-stored values s
+
+-- one value, put there
+pub first_stored : {v key : ℤ} (s : List ℤ) → 0 < length s → v ≡ key → set s 0 v ≡ stored (key ∷ []) s
+unfolding stored
+first_stored [] h e = absurd (omega arith)
+first_stored (x ∷ xs) h e = ap (λ (y : ℤ). y ∷ xs) e
+
+module _ (s : List ℤ) (held : ℕ) (key : ℤ) (room : held ≤ length s) {xs : List ℤ} {asked : ℤ} (v : xs ≡ take held s) (k : asked ≡ key) where
   abbrev front : List ℤ
   front = take held s
 
   many : length front ≡ held
   many = length-take-le held s room
 
-  module _ {r : Bool} {asked : ℤ} (e : r ≡ stands_at front at asked) (k : asked ≡ key) where
-    -- the key is there
-    module _ (there : r ≡ true) where
-      known : insert key front ≡ front
-      known =
-          let v = stands-value front at asked e there in
-          let is : get_or front (code_of front key) (pos 0) ≡ key = ap (λ (n : ℕ). get_or front n (pos 0)) (sym code) ∙ v.1 ∙ k in
-          insert-known key front (rw (← code) v.0) (ap (lt_z key) is ∙ lt_z-self key)
+  -- the key is there
+  pub taken-known : Rising front → has xs asked ≡ true → (held ≡ length (insert key front)) × (s ≡ stored (insert key front) s)
+  taken-known r h =
+      let e : insert key front ≡ front = insert-had key front r (rw (v, k) at h) in
+      (sym (ap length e ∙ many), same_front s held room ∙ ap (λ (l : List ℤ). stored l s) (sym e))
 
-      pub taken-known : (held ≡ length (insert key front)) × (s ≡ stored (taken cap key front) s)
-      unfolding taken
-      taken-known = (sym (ap length known ∙ many), same_front s held room ∙ ap (λ (l : List ℤ). stored l s) (go (leb (length (insert key front)) cap)))
-        where
-          go : (t : Bool) → front ≡ cond t (insert key front) front
-          go true = sym known
-          go false = refl
+  -- it is new: with it there is one more
+  module _ (h : has xs asked ≡ false) where
+    absent : has front key ≡ false
+    absent = rw (v, k) at h
 
-    -- it is new
-    module _ (absent : r ≡ false) where
-      new : insert key front ≡ take at s ++ (key ∷ slice at held s)
-      new =
-          let most : at ≤ held = omega (arith, code-le key front, many) in
-          let n = insert-new key front (λ h. above (get_or front (code_of front key) (pos 0)) key (code_at key front h)
-          (ap (λ (n : ℕ). eq_z (get_or front n (pos 0)) key) (sym code) ∙ ap (eq_z (get_or front at (pos 0))) (sym k) ∙ stands-other front at asked e absent (rw code h))) in
-          n
-          ∙ ap (λ (n : ℕ). take n front ++ (key ∷ drop n front)) (sym code)
-          ∙ ap (λ (l : List ℤ). l ++ (key ∷ drop at front)) (take-take at held s most)
+    pub taken-more : held + 1 ≡ length (insert key front)
+    taken-more = omega (arith, insert-more key front absent, many)
 
-      more : length (insert key front) ≡ held + 1
-      more =
-          let most : at ≤ held = omega (arith, code-le key front, many) in
-          ap length new
-          ∙ length-append (take at s) (key ∷ slice at held s)
-          ∙ omega (arith, length-take-le at s (omega arith), length-slice at held s room)
+    -- and it stands at its code
+    module _ {at : ℕ} (c : at ≡ code_of xs asked) where
+      code : at ≡ code_of front key
+      code = rw (v, k) at c
 
-      -- and one too many
-      pub taken-full : held ≡ cap → (held + 1 ≡ length (insert key front)) × (s ≡ stored (taken cap key front) s)
-      unfolding taken
-      taken-full h = (sym more, same_front s held room ∙ ap (λ (t : Bool). stored (cond t (insert key front) front) s) (sym (lt-leb (length (insert key front)) cap (omega (arith, more)))))
+      pub code-most : at ≤ held
+      code-most = omega (arith, code, code-le key front, many)
 
-      -- and takes its place
-      pub taken-new : held < cap → {after : List ℤ} → after ≡ opened s at held asked → (held + 1 ≡ length (insert key front)) × (after ≡ stored (taken cap key front) s)
-      unfolding taken stored
-      taken-new h {after} f = (
-        sym more,
-        f
-            ∙ ap (opened s at held) k
-            ∙ sym (append_assoc (take at s) (key ∷ slice at held s) (drop (suc held) s))
-            ∙ ap (λ (l : List ℤ). l ++ drop (suc held) s) (sym new)
-            ∙ ap (λ (n : ℕ). insert key front ++ drop n s) (sym (more ∙ add-one held))
-            ∙ ap (λ (t : Bool). stored (cond t (insert key front) front) s) (sym (le-leb (length (insert key front)) cap (omega (arith, more)))),
-      )
+      pub taken-new : {after : List ℤ} → after ≡ opened s at held asked → after ≡ stored (insert key front) s
+      unfolding stored
+      taken-new {after} f =
+          f
+          ∙ ap (opened s at held) k
+          ∙ sym (append_assoc (take at s) (key ∷ slice at held s) (drop (suc held) s))
+          ∙ ap (λ (l : List ℤ). (l ++ (key ∷ drop at front)) ++ drop (suc held) s) (sym (take-take at held s code-most))
+          ∙ ap (λ (n : ℕ). (take n front ++ (key ∷ drop n front)) ++ drop (suc held) s) code
+          ∙ ap (λ (l : List ℤ). l ++ drop (suc held) s) (sym (insert-new key front absent))
+          ∙ ap (λ (n : ℕ). insert key front ++ drop n s) (sym (add-one held) ∙ taken-more)

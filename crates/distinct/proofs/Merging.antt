@@ -5,20 +5,20 @@ use mathlib.Core.Bool.{Bool, true, false, ◌||◌}
 use mathlib.Core.List.{List, [], ◌∷◌, ◌++◌, append_assoc}
 use Prim.Native.Nat.{ℕ, zero, suc, ◌+◌, ◌-◌, ◌≤◌, ◌<◌}
 use native.Mathlib.Nat.{add-zero}
-use native.Mathlib.Decide.{dec_lt}
 use native.Mathlib.Omega.{arith}
-use lib.IntN.{ℤ, pos}
-use lib.Signed.{lt_z}
+use lib.IntN.{ℤ, pos, negsuc}
+use lib.Signed.{lt_z, le_z}
 use lib.ListN.{length, get_or, set, take, drop, length-append, length-set, take-append-drop}
 use lib.Seq.{take-suc, drop-cons, take-set-le, drop-set-lt, get_or-set_same, length-take-le, take_all, get_or-take}
-use borrow.Author.Tests.{eq-eqb, ne_eqb}
+use borrow.Author.Tests.{lt-ltb, leb-false}
 use Rattle.format.specs.Keys.{eq_z}
+use Rattle.format.specs.Answers.{stored}
 use Rattle.format.specs.Distinct.{insert, distinct_from, Rising}
 use Rattle.format.proofs.Numbers.All.{All, all_none, all_more}
 use Rattle.format.proofs.Numbers.Order.{lt_z-trans}
 use Rattle.format.proofs.Numbers.Distinct.{distinct_from-most, distinct_from-has, distinct_from-rising}
 use Rattle.distinct.specs.Collect.{has}
-use Rattle.distinct.specs.Merge.{merged, Mergeable, last_over, Raised}
+use Rattle.distinct.specs.Merge.{merged, Mergeable, Raised}
 use Rattle.distinct.proofs.Members.{Ordered, less, same, greater, ordered, eq_z-self, insert-head, insert-above, insert-below, insert-had, or-true, has_both}
 
 -- ---- lists that rise
@@ -103,25 +103,31 @@ split-last w h =
     let n : suc (length w - 1) ≡ length w = omega arith in
     sym (take_all (length w) w (omega arith)) ∙ ap (λ (k : ℕ). take k w) (sym n) ∙ take-suc w (length w - 1) (pos 0) (omega arith)
 
--- ---- whether the last of the front is greater
+-- ---- a front, and another beside it
 
-module _ (s : List ℤ) (i : ℕ) (key : ℤ) where
-  pub over_none : i ≡ 0 → last_over s i key ≡ false
-  unfolding last_over
-  over_none e = rw (eq-eqb i 0 e)
+-- both are the fronts of buffers
+module _ (s p : List ℤ) {q : List ℤ} (held n : ℕ) (beside : n ≤ length p) (apart : length (distinct_from (take held s) (take n p)) ≡ held + n) (e : q ≡ take n p) where
+  pub mergeable : held + n ≤ length s → Rising (take held s) → Rising (take n p) → Mergeable s held q
+  mergeable room front rest =
+      let m : length (take n p) ≡ n = length-take-le n p beside in
+      rw e (record { room = rw m room; front = front; rest = rest; apart = apart ∙ ap (λ (k : ℕ). held + k) (sym m) })
 
-  pub over-some : 0 < i → last_over s i key ≡ lt_z key (get_or s (i - 1) (pos 0))
-  unfolding last_over
-  over-some h = rw (ne_eqb i 0 (λ (e : i ≡ 0). omega arith))
-
-  pub over-true : last_over s i key ≡ true → (0 < i) × (lt_z key (get_or s (i - 1) (pos 0)) ≡ true)
-  over-true e = go (dec_lt 0 i)
-    where
-      go : Dec (0 < i) → (0 < i) × (lt_z key (get_or s (i - 1) (pos 0)) ≡ true)
-      go (yes h) = (h, sym (over-some h) ∙ e)
-      go (no h) = let n : i ≡ 0 = omega arith in let z : ◌≡◌ {A = ℕ} 0 1 = cc (over_none n) in absurd (omega arith)
+  pub merged_stored : {after : List ℤ} → after ≡ merged s held q → after ≡ stored (distinct_from (take held s) (take n p)) s
+  unfolding merged stored
+  merged_stored {after} f =
+      let m : length (take n p) ≡ n = length-take-le n p beside in
+      f
+      ∙ ap (merged s held) e
+      ∙ ap (λ (k : ℕ). distinct_from (take held s) (take n p) ++ drop k s) (ap (λ (k : ℕ). held + k) m ∙ sym apart)
 
 -- ---- the values above the last that waits go up
+
+-- a value that is not at most the key is greater
+above-most : (v key : ℤ) → le_z v key ≡ false → lt_z key v ≡ true
+above-most (pos a) (pos b) h = lt-ltb b a (leb-false a b h)
+above-most (pos a) (negsuc b) h = refl
+above-most (negsuc a) (pos b) h = let z : ◌≡◌ {A = ℕ} 0 1 = cc in absurd (omega arith)
+above-most (negsuc a) (negsuc b) h = lt-ltb a b (leb-false b a h)
 
 pub raised-none : {s : List ℤ} {i : ℕ} {w : List ℤ} → Mergeable s i w → Raised s i w s i
 raised-none m = record { long = refl; still = m; same = refl }
@@ -165,14 +171,17 @@ module _ (s : List ℤ) (i : ℕ) (w : List ℤ) (m : Mergeable s (suc i) w) (so
       }
 
 pub raised-more : {old : List ℤ} {from : ℕ} {w s : List ℤ} {i : ℕ} {x : ℤ} → Raised old from w s i → 0 < length w → 0 < i → x ≡ get_or s (i - 1) (pos 0)
-    → lt_z (get_or w (length w - 1) (pos 0)) (get_or s (i - 1) (pos 0)) ≡ true → Raised old from w (set s (i - 1 + length w) x) (i - 1)
-raised-more {old} {from} {w} {s} {i} {x} g some h v over = go i refl g.still g.same h v
+    → {key : ℤ} → le_z x key ≡ false → key ≡ get_or w (length w - 1) (pos 0) → Raised old from w (set s (i - 1 + length w) x) (i - 1)
+raised-more {old} {from} {w} {s} {i} {x} g some h v {key} more k = go i refl g.still g.same h v
   where
+    over : lt_z (get_or w (length w - 1) (pos 0)) x ≡ true
+    over = above-most x (get_or w (length w - 1) (pos 0)) (rw k at more)
+
     go : (n : ℕ) → i ≡ n → Mergeable s n w → merged s n w ≡ merged old from w → 0 < n → x ≡ get_or s (i - 1) (pos 0) → Raised old from w (set s (i - 1 + length w) x) (i - 1)
     go zero e m f h v = absurd (omega arith)
     go (suc n) e m f h v =
         let less : i - 1 ≡ n = omega arith in
-        let r = raised-step s n w m some (v ∙ ap (λ (k : ℕ). get_or s k (pos 0)) less) (ap (lt_z (get_or w (length w - 1) (pos 0))) v ∙ over) in
+        let r = raised-step s n w m some (v ∙ ap (λ (k : ℕ). get_or s k (pos 0)) less) over in
         rw less (record { long = r.long ∙ g.long; still = r.still; same = r.same ∙ f })
 
 -- ---- the last that waits takes its place
@@ -270,14 +279,14 @@ module _ {old : List ℤ} {held : ℕ} {p : List ℤ} where
 
   -- one that waits: what is greater goes up, and it takes its place
   pub merging-more : {s : List ℤ} {i j : ℕ} → Merging old held p s i j → 0 < j → {raised : List ℤ} {n : ℕ} → Raised s i (take j p) raised n → {y : ℤ} → y ≡ get_or p (j - 1) (pos 0)
-      → last_over raised n (get_or (take j p) (length (take j p) - 1) (pos 0)) ≡ false → Merging old held p (set raised (n + (j - 1)) y) n (j - 1)
-  merging-more {s} {i} {j} g h {raised} {n} r {y} v over = go j refl r.still (r.same ∙ g.same) h
+      → (0 < n → lt_z (get_or (take j p) (length (take j p) - 1) (pos 0)) (get_or raised (n - 1) (pos 0)) ≡ false) → Merging old held p (set raised (n + (j - 1)) y) n (j - 1)
+  merging-more {s} {i} {j} g h {raised} {n} r {y} v below = go j refl r.still (r.same ∙ g.same) h
     where
       last : get_or (take j p) (length (take j p) - 1) (pos 0) ≡ y
       last = ap (λ (k : ℕ). get_or (take j p) (k - 1) (pos 0)) (length-take-le j p g.upto) ∙ get_or-take j p (j - 1) (pos 0) (omega arith) ∙ sym v
 
       settled : 0 < n → lt_z y (get_or raised (n - 1) (pos 0)) ≡ false
-      settled h = sym (over-some raised n y h) ∙ ap (last_over raised n) (sym last) ∙ over
+      settled h = ap (λ (x : ℤ). lt_z x (get_or raised (n - 1) (pos 0))) (sym last) ∙ below h
 
       go : (k : ℕ) → j ≡ k → Mergeable raised n (take k p) → merged raised n (take k p) ≡ merged old held p → 0 < k → Merging old held p (set raised (n + (j - 1)) y) n (j - 1)
       go zero e m f h = absurd (omega arith)

@@ -1,10 +1,10 @@
 -- Collecting a column's distinct values (01, "Questions at the counter", "Writing": "At most 2^24 values? 21. For Dictionary: scratch of min(count, 16,384)? 22; at most
 -- 16,384 distinct? 23"; "Offsets of 21 to 24 are 0").
-use Rattle.std.specs.Prelude.{ℕ, Bool, false, not, cond, ◌&&◌, ◌||◌, List, [], ◌∷◌, ℤ, pos, leb, eqb, length, get_or}
+use Rattle.std.specs.Prelude.{ℕ, Bool, false, not, ◌&&◌, ◌||◌, List, [], ◌∷◌, ℤ, pos, leb, eqb, length, get_or}
 use Rattle.format.specs.Keys.{eq_z}
 use Rattle.format.specs.Outcome.{Outcome, ok, check, ◌>>=◌}
 use Rattle.format.specs.Encodings.{max_chunk_elements}
-use Rattle.format.specs.Distinct.{insert, distinct, too_many_distinct, scratch_check}
+use Rattle.format.specs.Distinct.{distinct, too_many_distinct, scratch_check}
 use Rattle.distinct.specs.Search.{slot_of}
 
 -- the question that is asked once the values are collected: "at most 16,384 distinct? 23". It finds how many there are
@@ -27,17 +27,6 @@ has (x ∷ xs) v = eq_z x v || has xs v
 
 -- ---- what private functions say
 
--- a key taken in among those held, unless they are more than `cap` with it
-unfoldable pub taken : ℕ → ℤ → List ℤ → List ℤ
-taken cap v held = cond (leb (length (insert v held)) cap) (insert v held) held
-
 -- whether a key's slot is vacant: it has the key that every slot had at first, and it is not that key's own
 unfoldable pub vacant : List ℤ → ℤ → ℤ → Bool
 vacant seen first key = eq_z (get_or seen (slot_of key (length seen)) (pos 0)) first && not (eqb (slot_of key (length seen)) (slot_of first (length seen)))
-
--- a key taken in among those that wait, unless it is held, or they are more than `cap` with it; and how many would wait with it
-unfoldable pub gathered : ℕ → List ℤ → ℤ → List ℤ → List ℤ
-gathered cap held v waiting = cond (has held v) waiting (taken cap v waiting)
-
-unfoldable pub gathered_count : List ℤ → ℤ → List ℤ → ℕ
-gathered_count held v waiting = cond (has held v) (length waiting) (length (insert v waiting))

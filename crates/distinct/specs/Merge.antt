@@ -1,6 +1,5 @@
 -- Two rising lists made one, in place: the first i values of a scratch, and others that wait beside it. No public contract cites this file.
-use Rattle.std.specs.Prelude.{◌≡◌, Bool, false, cond, List, ◌++◌, ℕ, ◌+◌, ◌-◌, ◌≤◌, ℤ, pos, eqb, length, get_or, take, drop}
-use Rattle.std.specs.Int.Signed.{lt_z}
+use Rattle.std.specs.Prelude.{◌≡◌, List, ◌++◌, ℕ, ◌+◌, ◌≤◌, ℤ, length, take, drop}
 use Rattle.format.specs.Distinct.{distinct_from, Rising}
 
 -- the scratch once they are one list
@@ -13,10 +12,6 @@ pub record Mergeable (s : List ℤ) (i : ℕ) (waiting : List ℤ) : Type 0 wher
   pub front : Rising (take i s)
   pub rest : Rising waiting
   pub apart : length (distinct_from (take i s) waiting) ≡ i + length waiting
-
--- whether the last of the first i values is greater than a key
-unfoldable pub last_over : List ℤ → ℕ → ℤ → Bool
-last_over s i key = cond (eqb i 0) false (lt_z key (get_or s (i - 1) (pos 0)))
 
 -- a scratch in which the values that are greater than the last that waits went up, so that the first i are left: they will be the same list
 pub record Raised (old : List ℤ) (from : ℕ) (waiting : List ℤ) (s : List ℤ) (i : ℕ) : Type 0 where

@@ -9,49 +9,45 @@ ghost use Rattle.format.specs.Answers.{outcome_of};
 ghost use Rattle.format.specs.Distinct.{scratch_needed, collected};
 ghost use Rattle.distinct.specs.Collect.{count_outcome};
 
-use crate::insert::{gather, take_in};
-use crate::known::{note, to_ask};
-use crate::merge::merge;
+use crate::known::{Seen, find};
+use crate::sorted::Sorted;
 use format::limits::MAX_DICTIONARY_CARDINALITY;
 use format::{Kind, Refusal};
 
-// Collects the distinct values in a scratch that is long enough. To begin with, the first key waits, and it is in every slot.
+// Collects the distinct values in a scratch that is long enough. To begin with, every slot has the first key.
 fn fill(
     column: &[i64],
     scratch: &mut [i64],
     pending: &mut [i64],
-    seen: &mut [i64],
+    seen: &mut Seen<'_>,
 ) -> Result<usize, Refusal>
-    requires column_in_bounds { (scratch_needed column.now ≤ length scratch.old) × (0 < length column.now) × (1 < length pending.old) × (0 < length seen.old) }
-    requires pos_value { get_or pending.old 0 (pos 0) ≡ get_or column.now 0 (pos 0) }
-    requires by_index { (k : ℕ) → k < length seen.old → get_or seen.old k (pos 0) ≡ get_or column.now 0 (pos 0) }
+    requires column_in_bounds { (scratch_needed column.now ≤ length scratch.old) × (0 < length column.now) × (1 < length pending.old) }
+    requires begun { seen.old.first ≡ get_or column.now 0 (pos 0) }
+    requires by_index { (k : ℕ) → k < length seen.old.slots.now → get_or seen.old.slots.now k (pos 0) ≡ get_or column.now 0 (pos 0) }
     ensures value { outcome_of result ≡ count_outcome column.now }
     ensures scratch_after { scratch.new ≡ collected column.now scratch.old }
 {
-    let first = column[0];
-    let mut held = 0;
-    let mut waiting = 1;
+    let mut held = Sorted::new(scratch);
+    let mut waiting = Sorted::of(pending, column[0]);
     for &key in &column[1..] {
-        let asked = to_ask(seen, first, key, held);
-        if note(seen, key) {
+        let asked = seen.to_ask(key, held.values());
+        if seen.note(key) {
             continue;
         }
-        let cap = MAX_DICTIONARY_CARDINALITY - held;
-        let more = gather(&scratch[..asked], pending, waiting, cap, key);
-        if more > cap {
-            merge(scratch, held, &pending[..waiting]);
+        if find(asked, key).is_ok() {
+            continue;
+        }
+        let Ok(()) = waiting.take_in(MAX_DICTIONARY_CARDINALITY - held.len(), key) else {
+            held.merge(&waiting);
             return Err(Kind::TooManyDistinct.at(0));
+        };
+        if waiting.is_full() {
+            held.merge(&waiting);
+            waiting.clear();
         }
-        waiting = more;
-        if waiting < pending.len() {
-            continue;
-        }
-        merge(scratch, held, pending);
-        held += waiting;
-        waiting = 0;
     }
-    merge(scratch, held, &pending[..waiting]);
-    Ok(held + waiting)
+    held.merge(&waiting);
+    Ok(held.len())
 }
 
 // The same with a buffer and a table of its own, for `wait` keys to wait at most. It has two callers, so the compiler keeps it
@@ -62,9 +58,14 @@ pub(crate) fn fill_many(column: &[i64], scratch: &mut [i64], wait: usize) -> Res
     ensures scratch_after { scratch.new ≡ collected column.now scratch.old }
 {
     let first = column[0];
-    let mut pending = [first; 256];
+    let mut pending = [0; 256];
     let mut seen = [first; 32768];
-    fill(column, scratch, &mut pending[..wait], &mut seen)
+    fill(
+        column,
+        scratch,
+        &mut pending[..wait],
+        &mut Seen::new(&mut seen, first),
+    )
 }
 
 // The same for few keys: each is taken in at once, with no buffer and no table, which would have to be filled first.
@@ -73,9 +74,9 @@ pub(crate) fn fill_few(column: &[i64], scratch: &mut [i64]) -> Result<usize, Ref
     ensures value { outcome_of result ≡ count_outcome column.now }
     ensures scratch_after { scratch.new ≡ collected column.now scratch.old }
 {
-    let mut held = 0;
+    let mut held = Sorted::new(scratch);
     for &key in column {
-        held = take_in(scratch, held, MAX_DICTIONARY_CARDINALITY, key);
+        held.take_in(MAX_DICTIONARY_CARDINALITY, key).unwrap();
     }
-    Ok(held)
+    Ok(held.len())
 }

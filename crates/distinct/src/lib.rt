@@ -10,18 +10,19 @@ ghost use Rattle.distinct.specs.Search.{searched, slot_of, stands_at};
 
 use crate::fill::{fill_few, fill_many};
 use crate::quarters::{begin, half, power, quarter, step};
-use format::limits::{MAX_CHUNK_ELEMENTS, MAX_DICTIONARY_CARDINALITY};
-use format::{Kind, Refusal};
+use format::limits::MAX_DICTIONARY_CARDINALITY;
+use format::{Column, Kind, Refusal};
 
 pub(crate) mod fill;
-pub(crate) mod insert;
 pub(crate) mod known;
 pub(crate) mod merge;
 pub(crate) mod quarters;
+pub(crate) mod sorted;
 
 // A search by quarters. Among rising values it finds how many are less than the key; in any other list, where the turns lead.
 // The answer lies in 2^left places from `low` on, and every turn leaves a quarter of them; to begin with these are the first or the
-// last of the values, whichever the answer lies in.
+// last of the values, whichever the answer lies in. Tried: the library's `partition_point` and `binary_search`; among 16,384 values a
+// search took 91 and 81 ns in place of 38. And of a list that does not rise they promise a bound alone (docs/DECISIONS.md, 56).
 pub fn search(values: &[i64], key: i64) -> usize
     ensures { result ≡ searched values.now key }
 {
@@ -32,6 +33,7 @@ pub fn search(values: &[i64], key: i64) -> usize
     let mut left = number::required_width(count as u64) - 1;
     let last = count - power(left);
     let mut low = begin(values[last], key, last);
+    // Tried: `for turn in (0..left / 2).rev()`, with the shift made of both; in a copy in C a search took 1.4 to 2.4 times as long.
     while left > 1 {
         left -= 2;
         low = quarter(values, key, low, left);
@@ -45,7 +47,7 @@ pub fn search(values: &[i64], key: i64) -> usize
 pub fn stands(values: &[i64], at: usize, key: i64) -> bool
     ensures { result ≡ stands_at values.now at key }
 {
-    at < values.len() && values[at] == key
+    values.get(at) == Some(&key)
 }
 
 // The slot of a key in a table of a power of two of slots: bits of its halves' sum multiplied by a prime, so that near keys have
@@ -70,9 +72,7 @@ pub fn collect(column: &[i64], scratch: &mut [i64]) -> Result<usize, Refusal>
     ensures value { outcome_of result ≡ collect_outcome column.now (length scratch.old) }
     ensures scratch_after { scratch.new ≡ write_scratch 6 column.now scratch.old }
 {
-    if column.len() > MAX_CHUNK_ELEMENTS {
-        return Err(Kind::ColumnAboveLimit.at(0));
-    }
+    Column::new(column)?;
     if scratch.len() < column.len().min(MAX_DICTIONARY_CARDINALITY) {
         return Err(Kind::ScratchTooShort.at(0));
     }

@@ -1,2 +1,3 @@
-pub mod Measuring
+pub mod Begins
 pub mod Limits
+pub mod Walking

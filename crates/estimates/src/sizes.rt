@@ -10,22 +10,23 @@ ghost use Rattle.format.specs.Estimates.{plain_estimate, varint_estimate, bit_pa
 ghost use Rattle.format.specs.Estimates.{dictionary_estimate, delta_estimate, estimates_from, is_exact, size_if};
 ghost use Rattle.estimates.specs.Sizes.{Within};
 
+use bitpack::width::Width;
 use codec::header::header_len;
 use format::limits::DELTA_BLOCK_SIZE;
 use format::{Cardinality, IntegerStats, SizeEstimates};
-use places::block::packed_bytes;
 use varint::{uvarint_len, varint_len};
 
-// Numbers packed at the width of the largest.
+// Numbers packed at the width of the largest. The limit of a count is a `requires`, here and of `charge`, as in `codec`'s `lacking_for`.
 fn packed_size(count: usize, largest: u64) -> usize
     requires { count ≤ max_chunk_elements }
     ensures { result ≡ packed_len count (width largest) }
 {
-    packed_bytes(count, number::required_width(largest))
+    Width::of(largest).packed_len(count)
 }
 
 // What the blocks of so many deltas are charged before their offsets: each the longer varint of the least and the greatest delta,
 // and a width byte. No block has more, since its least delta lies between the two.
+#[tactic(auto, using(crate::proofs::Parts::blocks_most, crate::proofs::Parts::varint_most), unfolding(format::specs::Delta::block_count))]
 fn charge(deltas: usize, low: i64, high: i64) -> usize
     requires { deltas ≤ max_chunk_elements }
     ensures { result ≡ block_count delta_block_size deltas * (max (varint_len low) (varint_len high) + 1) }
@@ -42,7 +43,8 @@ pub(crate) struct Measured {
 }
 
 impl Measured {
-    // The lengths, in the order of the ids.
+    // The lengths, in the order of the ids. The entries' limit stands here, in `dictionary_size` and in `entries`, which measures them: a type for
+    // three private functions of two crates is no plainer.
     #[tactic(auto, unfolding(format::specs::Estimates::estimates_from))]
     pub(crate) fn estimates(self, entries: &[i64]) -> SizeEstimates
         requires { length entries.now ≤ max_dictionary_cardinality }
@@ -94,7 +96,7 @@ impl Measured {
     }
 
     // Run total, then per run a signed varint and a length.
-    #[tactic(auto, using(crate::proofs::Parts::header_most, crate::proofs::Parts::uvarint_most), unfolding(format::specs::Estimates::run_length_estimate))]
+    #[tactic(auto, using(crate::proofs::Parts::header_most, format::proofs::Numbers::Widths::uvarint_len_le), unfolding(format::specs::Estimates::run_length_estimate))]
     fn run_length_size(self) -> usize
         ensures { result ≡ run_length_estimate self.stats }
     {
@@ -104,14 +106,15 @@ impl Measured {
     }
 
     // Entry total, entries, width byte, packed codes; none where there are too many distinct values.
-    #[tactic(auto, using(crate::proofs::Parts::header_most, crate::proofs::Parts::entries_most))]
+    #[tactic(auto, using(crate::proofs::Parts::header_most, crate::proofs::Parts::entries_there, crate::proofs::Parts::entries_made, crate::proofs::Parts::entries_most), unfolding(format::specs::Estimates::dictionary_estimate, entries::specs::Measured::body_len))]
     fn dictionary_size(self, entries: &[i64]) -> Option<usize>
         requires { length entries.now ≤ max_dictionary_cardinality }
         ensures { result ≡ size_if (is_exact self.stats.cardinality) (dictionary_estimate self.stats entries.now) }
     {
         match self.stats.cardinality {
             Cardinality::Exact(_) => {
-                Some(header_len(self.stats.count) + entries::body_len(entries, self.stats.count))
+                let body = entries::body_len(entries, self.stats.count)?;
+                Some(header_len(self.stats.count) + body)
             }
             Cardinality::AtLeast(_) => None,
         }
@@ -119,7 +122,7 @@ impl Measured {
 
     // First value, block size, what the blocks are charged, and all deltas packed at the width of their whole span; none where there
     // are no two values.
-    #[tactic(auto, using(crate::proofs::Parts::header_most, crate::proofs::Parts::varint_most, crate::proofs::Parts::uvarint_most, crate::proofs::Parts::packed_most, crate::proofs::Parts::charge_most), unfolding(format::specs::Estimates::delta_estimate))]
+    #[tactic(auto, using(crate::proofs::Parts::header_most, crate::proofs::Parts::varint_most, format::proofs::Numbers::Widths::uvarint_len_le, crate::proofs::Parts::packed_most, crate::proofs::Parts::charge_most), unfolding(format::specs::Estimates::delta_estimate))]
     fn delta_size(self) -> Option<usize>
         ensures { result ≡ size_if (leb 2 self.stats.count) (delta_estimate self.stats) }
     {

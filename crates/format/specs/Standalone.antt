@@ -5,7 +5,7 @@ use Rattle.format.specs.Outcome.{Outcome, ok, check, ◌>>=◌}
 use Rattle.format.specs.Keys.{zigzag, unzigzag}
 use Rattle.format.specs.Varint.{uvarint_len, uvarint_bytes, read_uvarint}
 use Rattle.format.specs.Packing.{packed_len, packed, unpacked, packed_end}
-use Rattle.format.specs.declared.Varint.{Varint}
+use Rattle.format.specs.declared.Read.{Read}
 use Rattle.format.specs.Encodings.{max_chunk_elements}
 use Rattle.format.specs.Answers.{stored_answer, buffer_after}
 
@@ -49,6 +49,10 @@ unfoldable pub unpack_buffer : List ℕ → ℕ → ℕ → List ℕ → List �
 unpack_buffer s w count buffer = buffer_after (unpack_outcome s w count (length buffer)) buffer
 
 -- ---- varints
+
+-- a signed varint that was read
+abbrev pub Varint : Type 0
+Varint = Read ℤ
 
 -- "A varint alone: read from a given place, past the end or not, 6, 7" is `read_uvarint`; and of a signed one
 unfoldable pub read_varint : List ℕ → ℕ → Outcome Varint

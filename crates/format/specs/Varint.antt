@@ -7,7 +7,7 @@ use Rattle.format.specs.Outcome.{Outcome, refused, ok, ◌>>=◌, value_or}
 use Rattle.format.specs.Digits.{of_digits, digits}
 use Rattle.format.specs.Keys.{zigzag}
 use Rattle.format.specs.Width.{width}
-use Rattle.format.specs.declared.Uvarint.{Uvarint}
+use Rattle.format.specs.declared.Read.{Read}
 use Rattle.format.specs.declared.Extent.{Extent}
 
 -- ---- writing
@@ -34,6 +34,10 @@ unfoldable pub varint_bytes : ℤ → List ℕ
 varint_bytes v = uvarint_bytes (zigzag v)
 
 -- ---- reading
+
+-- a varint that was read
+abbrev pub Uvarint : Type 0
+Uvarint = Read ℕ
 
 -- The place just after the varint that begins at `start`: a walk whose next byte, at the place `at`, is the first of `rest`; `left` more bytes may come.
 -- "next byte there? 6; is it no eleventh byte? 7; both at the varint's start."

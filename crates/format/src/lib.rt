@@ -8,10 +8,12 @@ ghost use Rattle.format.specs.Estimates.{is_exact, refused_estimates};
 ghost use Rattle.format.specs.Statistics.{cardinality_count};
 ghost use Rattle.format.specs.declared.Cardinality.TheVariants.{Exact};
 
+pub mod column;
 pub mod encoding;
 pub mod limits;
 pub mod refusals;
 
+pub use column::Column;
 pub use encoding::Encoding;
 pub use refusals::{Kind, Refusal, UnknownNumber};
 
@@ -65,21 +67,17 @@ pub enum PlanReason {
     GainBelowThreshold,
 }
 
-// An unsigned varint that was read: its value, the place after it, and whether it is unpadded, which strict reading asks.
+// A varint that was read: its value, the place after it, and whether it is unpadded, which strict reading asks.
 #[derive(Clone, Copy, Debug, PartialEq, Eq)]
-pub struct Uvarint {
-    pub value: u64,
+pub struct Read<T> {
+    pub value: T,
     pub next: usize,
     pub unpadded: bool,
 }
 
-// The same for a signed varint.
-#[derive(Clone, Copy, Debug, PartialEq, Eq)]
-pub struct Varint {
-    pub value: i64,
-    pub next: usize,
-    pub unpadded: bool,
-}
+pub type Uvarint = Read<u64>;
+
+pub type Varint = Read<i64>;
 
 // A header that was read: the id, the count, the start of the body, and the start of the first padded varint, which strict
 // reading asks for, if there is one.
@@ -124,7 +122,7 @@ pub struct SizeEstimates {
     pub lengths: [Option<usize>; 7],
 }
 
-// Those of a refused call.
+// Those of a refused call. By hand: tried, a derived one, of which the law tells nothing of the array.
 #[tactic(auto, unfolding(crate::specs::Estimates::refused_estimates))]
 impl Default for SizeEstimates {
     ghost is_default = { λ estimates. estimates ≡ refused_estimates };

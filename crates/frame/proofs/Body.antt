@@ -1,18 +1,16 @@
 -- A FrameOfReference body from its parts: how long it is, that it is the least value's bytes, a width byte and the packed differences, and its questions, which are
 -- those of a packed body after the first.
-use mathlib.Core.Path.{◌≡◌, sym, ap, ◌∙◌}
+use mathlib.Core.Path.{◌≡◌, sym, ◌∙◌}
 use mathlib.Core.List.{List, ◌∷◌, ◌++◌, map}
-use Prim.Native.Nat.{ℕ, ◌+◌, ◌-◌, ◌^◌, ◌≤◌, ◌<◌}
+use Prim.Native.Nat.{ℕ, ◌+◌, ◌-◌, ◌≤◌}
 use native.Mathlib.Numerals.{add-one}
 use native.Mathlib.Omega.{arith}
 use lib.IntN.{ℤ}
 use lib.Dec.{leb}
 use lib.ListN.{length, get_or, set, length-append, length-map}
-use lib.Seq.{sets, length-sets}
+use lib.Seq.{sets}
 use borrow.Author.Tests.{lt-ltb, le-leb, leb-true}
 use Rattle.format.specs.Outcome.{check}
-use Rattle.format.specs.Answers.{count_of}
-use Rattle.format.specs.Standalone.{packed_len_answer}
 use Rattle.format.specs.Encodings.{max_chunk_elements}
 use Rattle.format.specs.Keys.{gap, key_bytes}
 use Rattle.format.specs.Packing.{packed_len, packed, width_at, packed_end}
@@ -22,16 +20,13 @@ use Rattle.format.specs.Chunk.{body_of, validate_body}
 use Rattle.format.specs.Parts.{packed_extent}
 use Rattle.format.specs.declared.encoding.Encoding.TheVariants.{FrameOfReference}
 use Rattle.format.specs.declared.Header.{Header}
-use Rattle.std.specs.Prelude.{Option}
+use Rattle.std.specs.Prelude.{Option, Some}
+use Rattle.std.proofs.lemmas.Option.{same_Some}
+use Rattle.places.proofs.Placing.{Put}
 use Rattle.format.proofs.Codecs.Outcome.{both-passed, check-passed}
 use Rattle.format.proofs.Lengths.Parts.{length-packed_body}
 use Rattle.format.proofs.Numbers.Keys.{length-key_bytes}
 use Rattle.format.proofs.Numbers.Stores.{sets-append}
-use Rattle.places.specs.Places.{fitting, laid, laid_end}
-use Rattle.places.proofs.Placing.{bytes-laid}
-use Rattle.format.proofs.Numbers.Packing.{packed_len-most}
-use Rattle.format.proofs.Numbers.Widths.{width-le}
-use Rattle.places.proofs.Blocks.{packed-counted}
 use Rattle.codec.specs.Valid.{Valid}
 use Rattle.places.specs.Packed.{Inside}
 use Rattle.codec.proofs.Settling.{passed-inside}
@@ -41,41 +36,23 @@ use Rattle.frame.specs.Fit.{Fitted}
 -- ---- writing
 
 -- the least value, and then a byte and others after it, stored one after the other
-module _ (low : ℤ) (output : List ℕ) (start : ℕ) (room : start + 8 ≤ length output) {at : ℕ} {begun : List ℕ}
-    (key : (at ≡ laid_end (fitting (key_bytes low) (length output - start)) start) × (begun ≡ laid (fitting (key_bytes low) (length output - start)) start output))
-  where
-    laid-key : (at ≡ start + length (key_bytes low)) × (begun ≡ sets output start (key_bytes low))
-    laid-key = rw (bytes-laid start output (key_bytes low) (omega (arith, room, length-key_bytes low))) at key
+module _ (low : ℤ) (output : List ℕ) (start : ℕ) {end : Option ℕ} {begun : List ℕ} (put : Put (key_bytes low) output start begun end) {at : ℕ} (found : end ≡ Some at) where
+  pub key_end : at ≡ start + 8
+  key_end = let e : at ≡ start + length (key_bytes low) = same_Some _ _ (sym found ∙ put.0) in omega (arith, e, length-key_bytes low)
 
-    pub key-end : at ≡ start + 8
-    key-end = omega (arith, laid-key.0, length-key_bytes low)
-
-    pub key-long : length begun ≡ length output
-    key-long = ap length laid-key.1 ∙ length-sets output start (key_bytes low)
-
-    pub parts-stored : (w : ℕ) (bytes : List ℕ) {out : List ℕ} → out ≡ sets (set begun at w) (at + 1) bytes → out ≡ sets output start (key_bytes low ++ (w ∷ bytes))
-    parts-stored w bytes e =
-        e ∙ rw (add-one at, laid-key.1, laid-key.0) (sym (sets-append (key_bytes low) (w ∷ bytes) output start))
+  pub parts-stored : (w : ℕ) (bytes : List ℕ) {out : List ℕ} → out ≡ sets (set begun at w) (at + 1) bytes → out ≡ sets output start (key_bytes low ++ (w ∷ bytes))
+  parts-stored w bytes e =
+      let place : at ≡ start + length (key_bytes low) = same_Some _ _ (sym found ∙ put.0) in
+      e ∙ rw (add-one at, put.1, place) (sym (sets-append (key_bytes low) (w ∷ bytes) output start))
 
 module _ (column : List ℤ) {r : Fit} (f : Fitted column r) where
-  pub body_is : key_bytes r.least ++ (r.width ∷ packed r.width (map (gap r.least) column)) ≡ body_of FrameOfReference column
+  pub body_length : length (body_of FrameOfReference column) ≡ 9 + packed_len (length column) r.width.bits
+  unfolding body_of frame_body
+  body_length = rw f.widest (simp (length-append, length-key_bytes, length-packed_body, length-map) (omega arith))
+
+  pub body_is : key_bytes r.least ++ (r.width.bits ∷ packed r.width.bits (map (gap r.least) column)) ≡ body_of FrameOfReference column
   unfolding body_of frame_body packed_body
   body_is = rw (f.base, f.widest)
-
-  pub narrow : r.width ≤ 64
-  narrow = rw f.widest (width-le _)
-
-  pub body-length : length (body_of FrameOfReference column) ≡ 9 + packed_len (length column) r.width
-  unfolding body_of frame_body
-  body-length = rw f.widest (simp (length-append, length-key_bytes, length-packed_body, length-map) (omega arith))
-
-  -- its packed bytes, and that they are few
-  module _ {n bytes : ℕ} (same : n ≡ length column) (few : n ≤ max_chunk_elements) (counted : bytes ≡ count_of (packed_len_answer n r.width)) where
-    pub body-measured : 9 + bytes ≡ length (body_of FrameOfReference column)
-    body-measured = omega (arith, counted, packed-counted n r.width few narrow, ap (λ (k : ℕ). packed_len k r.width) same, body-length)
-
-    pub body-short : bytes < 2 ^ 31
-    body-short = omega (arith, counted, packed-counted n r.width few narrow, packed_len-most n r.width narrow)
 
 -- ---- reading
 

@@ -1,15 +1,11 @@
 -- A loop that finds the least and the greatest value of a column: the least of what was found and what is left is the whole's, and so is the greatest (`Bounded`).
 -- Every value is a key, so the largest difference from the least is that of the greatest.
-use mathlib.Core.Path.{◌≡◌, refl, sym, ap, ap₂, ◌∙◌}
-use mathlib.Core.Bool.{Bool, true, false}
+use mathlib.Core.Path.{◌≡◌, sym, ap, ap₂, ◌∙◌}
 use mathlib.Core.List.{List, [], ◌∷◌, ◌++◌, map}
 use Prim.Native.Nat.{ℕ, ◌+◌, ◌≤◌, ◌<◌, zero-le}
 use native.Mathlib.Numerals.{add-one}
 use native.Mathlib.Omega.{arith}
-use lib.Count.{count_leading_zeros}
 use lib.IntN.{ℤ, pos}
-use lib.Signed.{lt_z}
-use Rattle.std.specs.Prelude.{cond}
 use lib.ListN.{length, get_or, take, drop, drop_of_length-le}
 use lib.Seq.{drop-cons, take-suc, take_all}
 use Rattle.format.specs.Keys.{Key, gap, lesser, greater}
@@ -17,7 +13,9 @@ use Rattle.format.specs.Width.{width}
 use Rattle.format.specs.Folds.{least_from, least, greatest_from, greatest, largest}
 use Rattle.format.proofs.Numbers.All.{All, all_none, all_more}
 use Rattle.format.proofs.Numbers.Extremes.{largest-gaps}
+use Rattle.format.proofs.Numbers.Order.{lesser-same, greater-same}
 use Rattle.frame.specs.Fit.{Fitted}
+use Rattle.frame.specs.declared.writing.Fit.{Fit}
 
 -- `low` and `high` are found of the first i values
 pub record Bounded (column : List ℤ) (low high : ℤ) (i : ℕ) : Type 0 where
@@ -30,22 +28,10 @@ all_snoc : {xs : List ℤ} (v : ℤ) → All Key xs → Key v → All Key (xs ++
 all_snoc v all_none k = all_more k all_none
 all_snoc v (all_more h r) k = all_more h (all_snoc v r k)
 
-pub fitted_none : {column : List ℤ} → length column ≡ 0 → Fitted column (record { least = pos 0; width = 0 })
-unfolding least largest width count_leading_zeros
-fitted_none {column = []} e = record { base = refl; widest = refl }
-fitted_none {column = v ∷ vs} e = absurd (omega arith)
-
-either : (b : Bool) (v : ℤ) → cond b v v ≡ v
-either true v = refl
-either false v = refl
-
-lesser-same : (v : ℤ) → lesser v v ≡ v
-unfolding lesser
-lesser-same v = either (lt_z v v) v
-
-greater-same : (v : ℤ) → greater v v ≡ v
-unfolding greater
-greater-same v = either (lt_z v v) v
+pub fitted_none : {column : List ℤ} {r : Fit} → length column ≡ 0 → r.least ≡ pos 0 → r.width.bits ≡ width 0 → Fitted column r
+unfolding least largest
+fitted_none {column = []} e base widest = record { base = base; widest = widest }
+fitted_none {column = v ∷ vs} e base widest = absurd (omega arith)
 
 -- the first value is the least and the greatest of none
 pub bounded_none : (column : List ℤ) → 0 < length column → Bounded column (get_or column 0 (pos 0)) (get_or column 0 (pos 0)) 0

@@ -7,4 +7,4 @@ use Rattle.frame.specs.declared.writing.Fit.{Fit}
 
 pub record Fitted (column : List ℤ) (r : Fit) : Type 0 where
   pub base : r.least ≡ least column
-  pub widest : r.width ≡ width (largest (map (gap (least column)) column))
+  pub widest : r.width.bits ≡ width (largest (map (gap (least column)) column))

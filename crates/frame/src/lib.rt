@@ -6,14 +6,18 @@ ghost use Rattle.std.specs.Prelude.{refl};
 ghost use Rattle.format.specs.declared.encoding.Encoding.TheVariants as Encodings;
 ghost use Rattle.frame.specs.Fit.{Fitted};
 
+use crate::differences::Differences;
 use codec::body::settle_packed;
-use codec::chunk::{Codec, Encoder, lacking_for};
-use format::{Encoding, Extent, Header, Kind, Refusal};
-use places::block::packed_bytes;
+use codec::chunk::{Body, Codec, Encoder, lacking_for};
+use format::{Column, Encoding, Extent, Header, Kind, Refusal};
+use places::block::Blocks;
+use places::load::key_at;
+use places::packed::pack_by;
+use places::put_key;
+use places::unpacked::fill_by;
 use writing::Fit;
 
 pub(crate) mod differences;
-pub(crate) mod reading;
 pub mod writing;
 
 pub struct FrameOfReference;
@@ -25,15 +29,22 @@ impl Codec for FrameOfReference {
 
     // The nine bytes there? Then the questions of a packed body.
     #[tactic(auto, unfolding(format::specs::Chunk::validate_body, format::specs::Frame::validate_frame))]
-    fn settle_body(chunk: &[u8], strict: bool, header: Header) -> Result<Extent, Refusal> {
-        if chunk.len() < header.start + 9 {
-            return Err(Kind::FrameCut.at(header.start));
+    fn settle_body(body: Body<'_>, strict: bool) -> Result<Extent, Refusal> {
+        let before = body.before();
+        if body.chunk.len() < before.end + 9 {
+            return Err(Kind::FrameCut.at(before.end));
         }
-        settle_packed(chunk, header.start + 8, header.count, header.padded)
+        let end = before.end + 8;
+        settle_packed(body.chunk, Extent { end, ..before }, body.header.count)
     }
 
-    fn fill(chunk: &[u8], header: Header, column: &mut [i64]) {
-        reading::fill(chunk, header, column)
+    fn fill(body: Body<'_>, column: &mut [i64]) {
+        let Header { count, start, .. } = body.header;
+        let mut differences = Differences {
+            least: key_at(body.chunk, start),
+        };
+        let blocks = Blocks::new(body.chunk, start + 8, count);
+        fill_by(blocks, &mut differences, column)
     }
 }
 
@@ -44,20 +55,28 @@ impl Encoder for FrameOfReference {
 
     ghost scratchless = { λ k. refl };
 
-    fn measure(column: &[i64]) -> Fit {
-        writing::fit_of(column)
+    fn measure(column: Column<'_>) -> Fit {
+        writing::fit_of(column.values)
     }
 
-    fn lacking(column: &[i64], fit: Fit, space: usize) -> Option<usize> {
-        lacking_for(
-            column.len(),
-            9 + packed_bytes(column.len(), fit.width),
-            space,
-        )
+    #[tactic(auto, using(places::proofs::Packing::packed_short, crate::proofs::Body::body_length))]
+    fn lacking(column: Column<'_>, fit: Fit, space: usize) -> Option<usize> {
+        let count = column.values.len();
+        lacking_for(count, 9 + fit.width.packed_len(count), space)
     }
 
-    fn store(column: &[i64], fit: Fit, out: &mut [u8], at: usize) -> usize {
-        writing::store(column, fit, out, at);
-        at + 9 + packed_bytes(column.len(), fit.width)
+    #[tactic(auto, using(places::proofs::Packing::packed_short, crate::proofs::Body::body_length))]
+    fn store(column: Column<'_>, fit: Fit, out: &mut [u8], at: usize) -> usize {
+        let Fit { least, width } = fit;
+        let next = put_key(least, out, at).unwrap();
+        out[next] = width.bits as u8;
+        pack_by(
+            column.values,
+            &mut Differences { least },
+            width,
+            out,
+            next + 1,
+        );
+        at + 9 + width.packed_len(column.values.len())
     }
 }

@@ -8,6 +8,7 @@ use lib.IntN.{ℤ}
 use lib.Dec.{leb}
 use lib.ListN.{length}
 use borrow.Author.Tests.{leb-true}
+use Rattle.std.proofs.lemmas.Bool.{and_parts}
 use Rattle.format.specs.Outcome.{refused, ok, check, ◌>>=◌}
 use Rattle.format.specs.Encodings.{id_of, encodings, encoding_of, within, max_chunk_elements}
 use Rattle.format.specs.Distinct.{collected}
@@ -17,10 +18,6 @@ use Rattle.format.specs.Read.{validate, read_outcome, read_answer, read_column}
 use Rattle.format.specs.Write.{for_dictionary, write_checks, write_outcome, write_answer, write_output, write_scratch, scratch_after_checks}
 use Rattle.format.specs.declared.encoding.Encoding.{Encoding}
 use Rattle.format.specs.declared.encoding.Encoding.TheVariants.{Plain, Varint, BitPacked, FrameOfReference, RunLength, Dictionary, DeltaBinaryPacked}
-
-pub and_right : (a b : Bool) → (a && b) ≡ true → b ≡ true
-and_right true b e = e
-and_right false b e = cc
 
 too_large : (n : ℕ) → suc (suc (suc (suc (suc (suc (suc (suc n))))))) ≤ 7 → ⊥
 too_large n h = omega arith
@@ -47,13 +44,13 @@ id-of (suc (suc (suc (suc (suc zero))))) h = refl
 id-of (suc (suc (suc (suc (suc (suc zero)))))) h = refl
 id-of (suc (suc (suc (suc (suc (suc (suc zero))))))) h = refl
 id-of (suc (suc (suc (suc (suc (suc (suc (suc number)))))))) h =
-    absurd (too_large number (leb-true (suc (suc (suc (suc (suc (suc (suc (suc number)))))))) 7 (and_right (leb 1 (suc (suc (suc (suc (suc (suc (suc (suc number))))))))) _ h)))
+    absurd (too_large number (leb-true (suc (suc (suc (suc (suc (suc (suc (suc number)))))))) 7 (and_parts (leb 1 (suc (suc (suc (suc (suc (suc (suc (suc number))))))))) _ h).1))
 
 module _ (number : ℕ) where
   -- a known number is its encoding's id
-  pub known-number : {e : Encoding} → ok e ≡ encoding_named number → number ≡ id_of e
+  pub known_number : {e : Encoding} → ok e ≡ encoding_named number → number ≡ id_of e
   unfolding encoding_named
-  known-number {e} h = go (within 1 7 number) refl h
+  known_number {e} h = go (within 1 7 number) refl h
     where
       go : (t : Bool) → within 1 7 number ≡ t → ok e ≡ (check t 2 0 >>= λ _. ok (encoding_of number)) → number ≡ id_of e
       go false p q = let z : ◌≡◌ {A = ℕ} 0 1 = cc in absurd (omega arith)
@@ -68,18 +65,28 @@ module _ (number : ℕ) where
       go true p q = let z : ◌≡◌ {A = ℕ} 0 1 = cc in absurd (omega arith)
       go false p q = (p, cc, cc)
 
-  -- writing in it is refused, and nothing is touched
-  pub unknown-write : {n k : ℕ} → refused n k ≡ encoding_named number → (column scratch : List ℤ) (output : List ℕ)
-      → (refused n k ≡ write_answer number column (length scratch) (length output)) × (scratch ≡ write_scratch number column scratch)
-      × (output ≡ write_output number column (length scratch) output)
-  unfolding write_answer write_output write_scratch write_outcome write_checks
-  unknown-write h column scratch output = let f = refused-number h in rw (f.0, f.1, f.2) (refl, refl, refl)
+  module _ {n k : ℕ} (h : refused n k ≡ encoding_named number) where
+    -- writing in it is refused, and nothing is touched
+    pub unknown_write : (column scratch : List ℤ) (output : List ℕ) → refused n k ≡ write_answer number column (length scratch) (length output)
+    unfolding write_answer write_outcome write_checks
+    unknown_write column scratch output = let f = refused-number h in rw (f.0, f.1, f.2) refl
 
-  -- and so is reading by its name
-  pub unknown-name : {n k : ℕ} → refused n k ≡ encoding_named number → (strict : Bool) (s : List ℕ) (column : List ℤ)
-      → (refused n k ≡ read_answer strict (named number) s (length column)) × (column ≡ read_column strict (named number) s column)
-  unfolding read_answer read_column read_outcome validate read_header read_id
-  unknown-name h strict s column = let f = refused-number h in rw (f.0, f.1, f.2) (refl, refl)
+    pub unknown_scratch : (column scratch : List ℤ) → scratch ≡ write_scratch number column scratch
+    unfolding write_scratch write_checks
+    unknown_scratch column scratch = rw (refused-number h).0 refl
+
+    pub unknown_output : (column : List ℤ) (room : ℕ) (output : List ℕ) → output ≡ write_output number column room output
+    unfolding write_output write_outcome write_checks
+    unknown_output column room output = rw (refused-number h).0 refl
+
+    -- and so is reading by its name
+    pub unknown_name : (strict : Bool) (s : List ℕ) (room : ℕ) → refused n k ≡ read_answer strict (named number) s room
+    unfolding read_answer read_outcome validate read_header read_id
+    unknown_name strict s room = let f = refused-number h in rw (f.0, f.1, f.2) refl
+
+    pub unknown_column : (strict : Bool) (s : List ℕ) (column : List ℤ) → column ≡ read_column strict (named number) s column
+    unfolding read_column read_outcome validate read_header read_id
+    unknown_column strict s column = rw (refused-number h).0 refl
 
 -- the scratch after writing in an encoding: only Dictionary looks at it
 pub scratch_by : (e : Encoding) (column scratch : List ℤ) → write_scratch (id_of e) column scratch ≡ for_dictionary scratch (write_scratch 6 column scratch) e

@@ -8,6 +8,7 @@ use lib.IntN.{ℤ}
 use lib.Dec.{leb, ltb}
 use lib.ListN.{length, get_or}
 use borrow.Author.Tests.{eq-eqb}
+use Rattle.std.proofs.lemmas.Bool.{and_parts}
 use Rattle.format.specs.Outcome.{Outcome, refused, ok, check, ◌>>=◌}
 use Rattle.format.specs.Encodings.{id_of, encoding_of, within}
 use Rattle.format.specs.Header.{unnamed, named, read_id, read_header}
@@ -15,7 +16,7 @@ use Rattle.format.specs.Read.{validate, read_outcome, read_answer, read_column}
 use Rattle.format.specs.Parts.{peeked}
 use Rattle.format.specs.declared.encoding.Encoding.{Encoding}
 use Rattle.format.proofs.Codecs.Outcome.{both-passed, check-passed}
-use Rattle.integer.proofs.Numbered.{id-of, and_right}
+use Rattle.integer.proofs.Numbered.{id-of}
 
 -- an id that passes unnamed passes named by itself
 id-again : (s : List ℕ) {id : ℕ} → read_id unnamed s ≡ ok id → (within 1 7 id ≡ true) × (read_id (named id) s ≡ ok id)
@@ -27,7 +28,7 @@ id-again s {id} h =
     let same : get_or s 0 0 ≡ id = cc in
     let i : within 1 7 (get_or s 0 0) ≡ true = check-passed _ 2 0 integer in
     let t : leb 2 (length s) ≡ true = check-passed _ 3 0 two in
-    let k : within 1 9 (get_or s 0 0) ≡ true = and_right (ltb 0 (length s)) _ (check-passed _ 1 0 known) in
+    let k : within 1 9 (get_or s 0 0) ≡ true = (and_parts (ltb 0 (length s)) _ (check-passed _ 1 0 known)).1 in
     rw (← same) (i, rw (i, t, k, eq-eqb (get_or s 0 0) (get_or s 0 0) refl) refl)
 
 -- where an encoding is said, naming it makes no difference
@@ -50,13 +51,17 @@ unknown-id s {n} {k} h = go (read_id unnamed s) h
     go (ok id) q = let z : ◌≡◌ {A = ℕ} 0 1 = cc in absurd (omega arith)
 
 module _ (strict : Bool) (s : List ℕ) (column : List ℤ) where
-  pub peek-known : {e : Encoding} → ok e ≡ peeked s
+  pub peek_known : {e : Encoding} → ok e ≡ peeked s
       → (read_answer strict (named (id_of e)) s (length column) ≡ read_answer strict unnamed s (length column))
       × (read_column strict (named (id_of e)) s column ≡ read_column strict unnamed s column)
   unfolding read_answer read_column read_outcome validate read_header
-  peek-known h = rw (ids s h) (refl, refl)
+  peek_known h = rw (ids s h) (refl, refl)
 
-  pub peek-unknown : {n k : ℕ} → refused n k ≡ peeked s
-      → (refused n k ≡ read_answer strict unnamed s (length column)) × (column ≡ read_column strict unnamed s column)
-  unfolding read_answer read_column read_outcome validate read_header
-  peek-unknown h = rw (unknown-id s h) (refl, refl)
+  module _ {n k : ℕ} (h : refused n k ≡ peeked s) where
+    pub peek_unknown : refused n k ≡ read_answer strict unnamed s (length column)
+    unfolding read_answer read_outcome validate read_header
+    peek_unknown = rw (unknown-id s h) refl
+
+    pub peek_kept : column ≡ read_column strict unnamed s column
+    unfolding read_column read_outcome validate read_header
+    peek_kept = rw (unknown-id s h) refl

@@ -22,7 +22,7 @@ use runs::RunLength;
 use varints::Varint;
 
 // Writes a column in an encoding to the front of `out`. Dictionary collects the column's distinct values in the scratch; no other
-// encoding looks at it.
+// encoding looks at it. A rule of the project, here and in `decode`: document 01 names this form, "`Codec` becomes a match on `Encoding`".
 #[tactic(auto, using(crate::proofs::Numbered::scratch_by))]
 pub fn encode(
     encoding: Encoding,
@@ -45,7 +45,9 @@ pub fn encode(
     }
 }
 
-// The same in the encoding with a number, 1 to 7.
+// The same in the encoding with a number, 1 to 7. It may name no encoding: an `Encoding` would ask more of a caller, here and in
+// `decode_named`.
+#[tactic(auto, using(crate::proofs::Numbered::known_number, crate::proofs::Numbered::unknown_write, crate::proofs::Numbered::unknown_scratch, crate::proofs::Numbered::unknown_output))]
 pub fn encode_integers(
     column: &[i64],
     number: u32,
@@ -82,6 +84,7 @@ pub fn decode(
 }
 
 // Reads a chunk, strictly or not, into the front of `column`. Its first byte says the encoding.
+#[tactic(auto, using(crate::proofs::Reading::peek_known, crate::proofs::Reading::peek_unknown, crate::proofs::Reading::peek_kept))]
 pub fn decode_integers(chunk: &[u8], strict: bool, column: &mut [i64]) -> Result<usize, Refusal>
     ensures value { outcome_of result ≡ read_answer strict unnamed chunk.now (length column.old) }
     ensures column_after { column.new ≡ read_column strict unnamed chunk.now column.old }
@@ -91,6 +94,7 @@ pub fn decode_integers(chunk: &[u8], strict: bool, column: &mut [i64]) -> Result
 }
 
 // The same by a reading that names the encoding, by its number.
+#[tactic(auto, using(crate::proofs::Numbered::known_number, crate::proofs::Numbered::unknown_name, crate::proofs::Numbered::unknown_column))]
 pub fn decode_named(
     chunk: &[u8],
     name: u32,
@@ -129,7 +133,8 @@ pub fn read_all(column: &[i64])
 }
 
 // Writes a column in any encoding and reads the bytes that writing stored, named by the same number or not, strictly or not: the
-// keys come back. Where writing refuses, that is the answer, and nothing is read.
+// keys come back. Where writing refuses, that is the answer, and nothing is read. `naming` stays a `bool`: an `Option` of the number, which
+// the call has already, is no plainer.
 pub fn encode_then_decode(
     column: &[i64],
     number: u32,

@@ -5,41 +5,41 @@
 
 ghost use Rattle.std.specs.Prelude.{◌≡◌, ◌+◌, ◌≤◌, ◌<◌, length, replicate};
 ghost use Rattle.std.proofs.lemmas.List.Edits.{sets};
-ghost use Rattle.varint.specs.Finding.{found_at};
+ghost use Rattle.varint.specs.Finding.{found_in};
 ghost use Rattle.keys.specs.Rows.{times_after, filled_from};
 
 use format::limits::MAX_CHUNK_ELEMENTS;
 use varint::find::{Found, find_any, find_uvarint};
 
-// A length: mostly of one byte. Tried: `find_any` alone, which asks the same; runs of one value took 3 instructions more each, 4 to 5
-// percent, and 1 to 6 percent longer.
-fn find_length(chunk: &[u8], at: usize) -> Found
-    ensures { result ≡ found_at chunk.now at }
+// A length: mostly of one byte. Tried: `find_any` alone, which asks the same, but is called and not inlined; runs of one value took 14
+// instructions more each, and 1.3 times as long.
+#[tactic(auto, using(varint::proofs::Finding::found_none, varint::proofs::Finding::found_one))]
+fn find_length(chunk: &[u8], at: usize) -> Option<Found>
+    ensures { result ≡ found_in chunk.now at }
 {
-    if at < chunk.len() {
-        let b = chunk[at];
-        if b < 128 {
-            return Found {
-                value: u64::from(b),
-                next: at + 1,
-            };
-        }
+    let only = *chunk.get(at)?;
+    if only < 128 {
+        return Some(Found {
+            value: u64::from(only),
+            next: at + 1,
+        });
     }
     find_any(chunk, at)
 }
 
-// How often a key stands that ends at `at`, and the place after that: its length, or once where there are no lengths.
+// How often a key stands that ends at `at`, and the place after that: its length, or once where there are no lengths. After a refused
+// varint it is 0 and 0, here and in `fill_keys`, which cannot fail and must not.
 fn times_after(chunk: &[u8], at: usize, lengths: bool) -> Found
     ensures { result ≡ times_after lengths chunk.now at }
 {
     if lengths {
-        return find_length(chunk, at);
+        return find_length(chunk, at).unwrap_or_default();
     }
     Found { value: 1, next: at }
 }
 
 // Stores a key `times` times from `at` on. Mostly that is once. Tried: `fill`, with which the compiler makes no loop of its own for
-// keys without lengths, so that these cost a tenth more and short runs a half.
+// keys without lengths, so that these cost a tenth more and short runs a half; and a loop over the slice, an instruction more a key.
 fn fill_run(column: &mut [i64], at: usize, times: usize, key: i64)
     requires { at + times ≤ length column.old }
     ensures { column.new ≡ sets column.old at (replicate times key) }
@@ -65,7 +65,7 @@ pub fn fill_keys(chunk: &[u8], from: usize, n: usize, lengths: bool, column: &mu
     let mut next = from;
     let mut at = 0;
     for _ in 0..n {
-        let key = find_uvarint(chunk, next);
+        let key = find_uvarint(chunk, next).unwrap_or_default();
         let times = times_after(chunk, key.next, lengths);
         let count = times.value.min((column.len() - at) as u64) as usize;
         fill_run(column, at, count, number::zigzag_decode(key.value));

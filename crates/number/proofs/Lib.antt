@@ -1,3 +1,4 @@
 pub mod Signed
 pub mod ZigZag
 pub mod WordDigits
+pub mod Gathered

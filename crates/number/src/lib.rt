@@ -1,10 +1,13 @@
-// Keys and their 64 bits, the lesser and the greater of two, sums and differences that wrap, ZigZag, and the width of a number:
+// Keys and their 64 bits, the lesser and the greater of two, sums and differences that wrap, ZigZag, the bits of a column's, and the width of a number:
 // the Rust's casts, its `min` and `max`, its `wrapping_add` and `wrapping_sub`, the ZigZag of varint.rs and `required_width` of bitpack.rs.
+// Six of them are one call of the library each. They stay, since the call in a caller's place is no plainer: each caller would have to
+// cite that the library's words are the format's, which is proved here once.
 #![tactic(auto)]
 
-ghost use Rattle.std.specs.Prelude.{◌≡◌};
+ghost use Rattle.std.specs.Prelude.{ℕ, ◌≡◌, ◌≤◌, ◌<◌, pos, map, length, get_or};
 ghost use Rattle.format.specs.Keys.{residue, as_signed, wrapping_add, delta, zigzag, unzigzag};
 ghost use Rattle.format.specs.Keys as Keys;
+ghost use Rattle.format.specs.Folds.{largest};
 ghost use Rattle.format.specs.Width.{width};
 
 pub mod words;
@@ -79,6 +82,18 @@ pub fn zigzag_decode(u: u64) -> i64
 {
     let half = (u >> 1).cast_signed();
     if u & 1 == 0 { half } else { !half }
+}
+
+// Every bit that the ZigZag of a value has. They are gathered faster than the largest ZigZag is found, and have the same width as it.
+pub fn zigzag_bits(column: &[i64]) -> u64
+    ensures widest { width result ≡ width (largest (map zigzag column.now)) }
+    ensures within { (i : ℕ) → i < length column.now → zigzag (get_or column.now i (pos 0)) ≤ result }
+{
+    let mut bits = 0;
+    for &value in column {
+        bits |= zigzag_encode(value);
+    }
+    bits
 }
 
 // The least width that holds every number up to max: 64 less the leading zeros.

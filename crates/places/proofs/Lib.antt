@@ -1,4 +1,3 @@
-pub mod Blocks
 pub mod Decoding
 pub mod Mapped
 pub mod Packing

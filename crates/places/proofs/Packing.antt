@@ -1,21 +1,27 @@
 -- Packing what a function gives of each value of a column, block by block: the bytes of the values that are left are still to come (`Storing`).
 use mathlib.Core.Path.{◌≡◌, sym, ap, ◌∙◌}
 use mathlib.Core.List.{List, [], ◌++◌, map, map-append, append-nil}
-use Prim.Native.Nat.{ℕ, ◌+◌, ◌-◌, ◌≤◌, min}
+use Prim.Native.Nat.{ℕ, ◌+◌, ◌-◌, ◌^◌, ◌≤◌, ◌<◌, min}
 use native.Mathlib.Decide.{dec_le}
 use native.Mathlib.Omega.{arith}
 use lib.IntN.{ℤ}
 use lib.ListN.{length, take, drop, length-append, length-map, drop_of_length-le}
 use lib.Seq.{sets, take_at}
+use Rattle.std.specs.Prelude.{Option, Some}
+use Rattle.std.specs.Option.{IsSome}
 use Rattle.format.specs.Answers.{stored}
 use Rattle.format.specs.Encodings.{max_chunk_elements}
 use Rattle.format.specs.Packing.{packed_len, packed}
 use Rattle.format.specs.Standalone.{pack_outcome}
-use Rattle.format.proofs.Numbers.Packing.{packed_len-zero, length-packed}
+use Rattle.format.proofs.Numbers.Packing.{packed_len-zero, packed_len-most, length-packed}
 use Rattle.format.proofs.Numbers.Stores.{sets-stored, Storing, storing-done}
 use Rattle.bitpack.proofs.PackingLaws.{packed_none, packed-append}
 use Rattle.places.specs.Places.{laid, laid_end}
-use Rattle.places.proofs.Placing.{storing-packed}
+use Rattle.places.proofs.Placing.{storing_packed, storing_packed_some}
+
+-- the packed bytes of a column are few
+pub packed_short : (count w : ℕ) → count ≤ max_chunk_elements → w ≤ 64 → packed_len count w < 2 ^ 31
+packed_short count w few narrow = omega (arith, packed_len-most count w narrow)
 
 -- what was stored at the front of a block
 pub front-stored : (whole l : List ℕ) (n : ℕ) {out : List ℕ} → out ≡ sets l 0 whole → length whole ≡ n → n ≤ length l → take n out ≡ whole
@@ -34,19 +40,28 @@ packed-part w part later e = go (dec_le 128 (length part))
 
 -- the bytes are to be stored in l from `from` on; those of the values before `rest` are, which makes `out`
 module _ (f : ℤ → ℕ) (w : ℕ) (column rest : List ℤ) {l out : List ℕ} {from at : ℕ} (s : Storing (packed w (map f column)) l from (packed w (map f rest)) out at) where
-  pub pack-part : (part later : List ℤ) → rest ≡ part ++ later → length part ≡ min 128 (length rest) → w ≤ 64 → from + packed_len (length column) w ≤ length l
-      → {values next : List ℕ} {end : ℕ} → values ≡ map f part
-      → end ≡ laid_end (pack_outcome values w (length out - at)) at → next ≡ laid (pack_outcome values w (length out - at)) at out
-      → Storing (packed w (map f column)) l from (packed w (map f later)) next end
-  pack-part part later e n hw h {values} ev ee en =
-      let parts : length part ≡ min 128 (length part + length later) = n ∙ ap (λ (r : List ℤ). min 128 (length r)) e ∙ ap (min 128) (length-append part later) in
-      let long : length (packed w (map f column)) ≡ packed_len (length column) w = length-packed w (map f column) ∙ ap (λ (k : ℕ). packed_len k w) (length-map column f) in
-      let few : length values ≤ max_chunk_elements = omega (arith, ap length ev, length-map part f, n) in
-      let both : packed w (map f rest) ≡ packed w values ++ packed w (map f later)
-      = ap (λ (r : List ℤ). packed w (map f r)) e ∙ ap (packed w) (map-append f part later)
-      ∙ packed-part w (map f part) (map f later) (omega (arith, parts, length-map part f, length-map later f))
-      ∙ ap (λ (vs : List ℕ). packed w vs ++ packed w (map f later)) (sym ev) in
-      storing-packed s (omega (arith, h, long)) values w (packed w (map f later)) both few hw (ee, en)
+  module _ (part later : List ℤ) (e : rest ≡ part ++ later) (n : length part ≡ min 128 (length rest)) (narrow : w ≤ 64) (h : from + packed_len (length column) w ≤ length l)
+      {values next : List ℕ} {end : Option ℕ} (ev : values ≡ map f part)
+      (put : (end ≡ laid_end (pack_outcome values w (length out - at)) at) × (next ≡ laid (pack_outcome values w (length out - at)) at out))
+    where
+      room : from + length (packed w (map f column)) ≤ length l
+      room = omega (arith, h, length-packed w (map f column) ∙ ap (λ (k : ℕ). packed_len k w) (length-map column f))
+
+      few : length values ≤ max_chunk_elements
+      few = omega (arith, ap length ev, length-map part f, n)
+
+      parted : packed w (map f rest) ≡ packed w values ++ packed w (map f later)
+      parted =
+          let parts : length part ≡ min 128 (length part + length later) = n ∙ ap (λ (r : List ℤ). min 128 (length r)) e ∙ ap (min 128) (length-append part later) in
+          ap (λ (r : List ℤ). packed w (map f r)) e ∙ ap (packed w) (map-append f part later)
+          ∙ packed-part w (map f part) (map f later) (omega (arith, parts, length-map part f, length-map later f))
+          ∙ ap (λ (vs : List ℕ). packed w vs ++ packed w (map f later)) (sym ev)
+
+      pub pack_some : IsSome end
+      pack_some = storing_packed_some s room values w (packed w (map f later)) parted few narrow put
+
+      pub pack_part : {place : ℕ} → end ≡ Some place → Storing (packed w (map f column)) l from (packed w (map f later)) next place
+      pack_part = storing_packed s room values w (packed w (map f later)) parted few narrow put
 
   pub pack-done : length rest ≡ 0 → out ≡ sets l from (packed w (map f column))
   pack-done e =

@@ -1,21 +1,26 @@
 -- Storing at a place: what a call left in the part of the output from a place on, seen from the whole (`placed`); and where there is room, the bytes stand there
--- (`uvarint-laid`, `packed-laid`, `bytes-laid`), which is what a codec has from the calls of `place`; so a codec that stores part by part goes on after them
--- (`storing-uvarint`, `storing-packed`).
+-- and the place after them is found (`uvarint_put`, `bytes_put`, `packed_put`, `put_some`), which is what a codec has from the calls of `places`; so a codec that
+-- stores part by part goes on after them (`storing_uvarint`, `storing_packed`).
 use mathlib.Core.Path.{◌≡◌, refl, sym, ap, ◌∙◌}
 use mathlib.Core.Bool.{Bool, true, false}
 use mathlib.Core.List.{List, [], ◌∷◌, ◌++◌, append_assoc}
-use Prim.Native.Nat.{ℕ, suc, ◌+◌, ◌-◌, ◌/◌, ◌%◌, ◌<◌, ◌≤◌}
-use native.Mathlib.Nat.{add-zero}
+use Prim.Native.Nat.{ℕ, suc, ◌+◌, ◌-◌, ◌/◌, ◌%◌, ◌<◌, ◌≤◌, min}
+use native.Mathlib.Decide.{dec_le}
 use native.Mathlib.Numerals.{add-one}
 use native.Mathlib.Omega.{arith}
 use lib.IntN.{ℤ}
 use lib.Dec.{leb}
-use lib.ListN.{length, set, take, drop, take-append-drop, length-append, length-set}
+use lib.ListN.{length, set, take, drop, take-append-drop, length-append, length-drop, length-set}
 use lib.Seq.{sets, length-sets, sets-eq, drop-drop}
 use borrow.Rule.Slice.PartMut.{put_mid}
 use borrow.Author.Tests.{le-leb, lt-leb, leb-true}
+use Rattle.std.specs.Prelude.{Option, None, Some, Result, Ok, Err}
+use Rattle.std.specs.Option.{IsSome}
+use Rattle.std.specs.Result.{result_ok}
+use Rattle.std.proofs.lemmas.Option.{none-some, same_Some}
 use Rattle.format.specs.Outcome.{Outcome, refused, ok, check, ◌>>=◌}
-use Rattle.format.specs.Answers.{stored, stored_answer, buffer_after}
+use Rattle.format.specs.Answers.{outcome_of, stored, stored_answer, buffer_after}
+use Rattle.format.specs.declared.refusals.Refusal.{Refusal}
 use Rattle.format.specs.Digits.{digits}
 use Rattle.format.specs.Keys.{residue, key_bytes}
 use Rattle.format.specs.Varint.{uvarint_len, uvarint_bytes}
@@ -25,11 +30,12 @@ use Rattle.format.specs.Header.{header_bytes, header_len}
 use Rattle.format.specs.Standalone.{uvarint_write_outcome, pack_outcome}
 use Rattle.format.proofs.Numbers.Keys.{length-key_bytes}
 use Rattle.format.proofs.Numbers.Uvarints.{length-uvarint_bytes}
+use Rattle.format.proofs.Numbers.Widths.{uvarint_len-pos}
 use Rattle.format.proofs.Numbers.Packing.{length-packed}
 use Rattle.format.proofs.Numbers.Stores.{Storing, storing-part, storing-room}
 use Rattle.format.proofs.Codecs.Header.{length-header_bytes}
-use Rattle.varint.proofs.Bytes.{uvarint_len-one, uvarint_len-more, uvarint_bytes-one, uvarint_bytes-more}
-use Rattle.bitpack.proofs.Parts.{part-back}
+use Rattle.varint.proofs.Bytes.{uvarint_len_one, uvarint_len-more, uvarint_bytes-one, uvarint_bytes-more}
+use Rattle.bitpack.proofs.Parts.{part-rest, part-back}
 use Rattle.places.specs.Places.{fitting, laid, laid_end}
 
 bytes_of : (value : ℤ) → digits 256 8 (residue value) ≡ key_bytes value
@@ -52,30 +58,47 @@ module _ (at : ℕ) (output : List ℕ) where
       ∙ ap (λ (l : List ℕ). (take at output ++ bytes) ++ l) (drop-drop (length bytes) at output)
       ∙ sym (sets-eq bytes output at room)
 
-  -- as the borrow checker states the whole after a call
-  pub placed-whole : (o : Outcome (List ℕ)) {back : List ℕ} → at ≤ length output → Fitting o (length output - at) → back ≡ buffer_after o (drop at output)
-      → put_mid at (length output - at) output back ≡ laid o at output
-  placed-whole o {back} h f e = part-back at output back h ∙ ap (λ (l : List ℕ). take at output ++ l) e ∙ placed o h f
+-- what is lent to a call: the part from the place on, or from the end where the place is past it
+module _ (at : ℕ) (output : List ℕ) {front : ℕ} (e : front ≡ min at (length output)) where
+  pub space_is : length (take (length output - front) (drop front output)) ≡ length output - at
+  space_is = omega (arith, ap length (part-rest front output), length-drop front output)
 
-  -- past the end nothing is stored
-  pub outside : (o : Outcome (List ℕ)) → length output ≤ at → Fitting o (length output - at) → (at ≡ laid_end o at) × (output ≡ laid o at output)
-  outside (refused number offset) h f = (refl, refl)
-  outside (ok []) h f = (sym (add-zero at), refl)
-  outside (ok (b ∷ bytes)) h f = absurd (omega (arith, f (b ∷ bytes) refl))
+  -- as the borrow checker states the whole after the call
+  pub placed_whole : (o : Outcome (List ℕ)) {back : List ℕ} → Fitting o (length output - at) → back ≡ buffer_after o (take (length output - front) (drop front output))
+      → put_mid front (length output - front) output back ≡ laid o at output
+  unfolding stored
+  placed_whole o {back} fits b =
+      part-back front output back (omega arith)
+      ∙ ap (λ (l : List ℕ). take front output ++ l) (b ∙ ap (buffer_after o) (part-rest front output))
+      ∙ go (dec_le at (length output)) o fits
+    where
+      none : take front output ++ stored [] (drop front output) ≡ output
+      none = take-append-drop front output
 
--- the place after it, by the answer
-pub end-accepted : (o : Outcome (List ℕ)) (at : ℕ) {n : ℕ} → stored_answer o ≡ ok n → at + n ≡ laid_end o at
-end-accepted (refused number offset) at {n} e = let z : ◌≡◌ {A = ℕ} 0 1 = cc in absurd (omega arith)
-end-accepted (ok bytes) at {n} e = let same : n ≡ length bytes = cc in ap (λ (k : ℕ). at + k) same
+      go : Dec (at ≤ length output) → (o : Outcome (List ℕ)) → Fitting o (length output - at) → take front output ++ buffer_after o (drop front output) ≡ laid o at output
+      go (yes h) o fits = let same : front ≡ at = omega arith in rw same (placed at output o h fits)
+      go (no h) (refused number offset) fits = take-append-drop front output
+      go (no h) (ok []) fits = none
+      go (no h) (ok (b ∷ bytes)) fits = absurd (omega (arith, fits (b ∷ bytes) refl))
 
-pub end_refused : (o : Outcome (List ℕ)) (at : ℕ) {number offset : ℕ} → stored_answer o ≡ refused number offset → at ≡ laid_end o at
-end_refused (refused number offset) at e = refl
-end_refused (ok bytes) at e = let z : ◌≡◌ {A = ℕ} 0 1 = cc in absurd (omega arith)
+-- the place after it, by the answer of the call
+module _ (o : Outcome (List ℕ)) (at : ℕ) (r : Result ℕ Refusal) (told : outcome_of r ≡ stored_answer o) where
+  pub end_none : None ≡ result_ok r → None ≡ laid_end o at
+  end_none e = go r o told e
+    where
+      go : (r : Result ℕ Refusal) (o : Outcome (List ℕ)) → outcome_of r ≡ stored_answer o → None ≡ result_ok r → None ≡ laid_end o at
+      go (Ok n) o t f = absurd (none-some _ f)
+      go (Err refusal) (refused number offset) t f = refl
+      go (Err refusal) (ok bytes) t f = let z : ◌≡◌ {A = ℕ} 0 1 = cc in absurd (omega arith)
 
--- no more than there is space for
-pub accepted-fits : (o : Outcome (List ℕ)) {space n : ℕ} → Fitting o space → stored_answer o ≡ ok n → n ≤ space
-accepted-fits (refused number offset) f e = let z : ◌≡◌ {A = ℕ} 0 1 = cc in absurd (omega arith)
-accepted-fits (ok bytes) {space} {n} f e = let same : n ≡ length bytes = cc in omega (arith, f bytes refl, same)
+  -- with no more bytes than there is space for
+  pub end_some : {space n : ℕ} → Fitting o space → Some n ≡ result_ok r → (n ≤ space) × (Some (at + n) ≡ laid_end o at)
+  end_some {space} {n} fits e = go r o told fits e
+    where
+      go : (r : Result ℕ Refusal) (o : Outcome (List ℕ)) → outcome_of r ≡ stored_answer o → Fitting o space → Some n ≡ result_ok r → (n ≤ space) × (Some (at + n) ≡ laid_end o at)
+      go (Ok m) (refused number offset) t f g = let z : ◌≡◌ {A = ℕ} 0 1 = cc in absurd (omega arith)
+      go (Ok m) (ok bytes) t f g = let same : n ≡ length bytes = cc in (omega (arith, f bytes refl, same), ap (λ (k : ℕ). Some (at + k)) same)
+      go (Err refusal) o t f g = absurd (none-some _ (sym g))
 
 -- ---- each call's bytes fit
 
@@ -91,10 +114,6 @@ pub uvarint-fits : (x space : ℕ) → Fitting (uvarint_write_outcome x space) s
 unfolding uvarint_write_outcome
 uvarint-fits x space = fits-check (uvarint_bytes x) (uvarint_len x) (length-uvarint_bytes x) space
 
-pub bytes_fit : (bytes : List ℕ) (space : ℕ) → Fitting (fitting bytes space) space
-unfolding fitting
-bytes_fit bytes space = fits-check bytes (length bytes) refl space
-
 pub packed-fits : (values : List ℕ) (w space : ℕ) → Fitting (pack_outcome values w space) space
 unfolding pack_outcome
 packed-fits values w space = go (leb (length values) max_chunk_elements) (leb w 64)
@@ -108,89 +127,134 @@ packed-fits values w space = go (leb (length values) max_chunk_elements) (leb w 
 -- ---- where there is room
 
 -- what a call that stores a varint at a place says of the output and of the place after it
-abbrev pub PutUvarint : ℕ → List ℕ → ℕ → List ℕ → ℕ → Type 0
+abbrev pub PutUvarint : ℕ → List ℕ → ℕ → List ℕ → Option ℕ → Type 0
 PutUvarint x output at out end = (end ≡ laid_end (uvarint_write_outcome x (length output - at)) at) × (out ≡ laid (uvarint_write_outcome x (length output - at)) at output)
 
+-- what was stored is there, and so is the place after it
+abbrev pub Put : List ℕ → List ℕ → ℕ → List ℕ → Option ℕ → Type 0
+Put bytes output at out end = (end ≡ Some (at + length bytes)) × (out ≡ sets output at bytes)
+
 module _ (at : ℕ) (output : List ℕ) where
-  pub uvarint-laid : (x : ℕ) → at + uvarint_len x ≤ length output → uvarint_write_outcome x (length output - at) ≡ ok (uvarint_bytes x)
+  pub uvarint_laid : (x : ℕ) → at + length (uvarint_bytes x) ≤ length output → uvarint_write_outcome x (length output - at) ≡ ok (uvarint_bytes x)
   unfolding uvarint_write_outcome
-  uvarint-laid x h = rw (le-leb (uvarint_len x) (length output - at) (omega arith))
+  uvarint_laid x h = rw (le-leb (uvarint_len x) (length output - at) (omega (arith, length-uvarint_bytes x)))
 
-  pub bytes-laid : (bytes : List ℕ) → at + length bytes ≤ length output → fitting bytes (length output - at) ≡ ok bytes
+  pub bytes_laid : (bytes : List ℕ) → at + length bytes ≤ length output → fitting bytes (length output - at) ≡ ok bytes
   unfolding fitting
-  bytes-laid bytes h = rw (le-leb (length bytes) (length output - at) (omega arith))
+  bytes_laid bytes h = rw (le-leb (length bytes) (length output - at) (omega arith))
 
-  pub packed-laid : (values : List ℕ) (w : ℕ) → length values ≤ max_chunk_elements → w ≤ 64 → at + packed_len (length values) w ≤ length output
+  pub packed_laid : (values : List ℕ) (w : ℕ) → length values ≤ max_chunk_elements → w ≤ 64 → at + packed_len (length values) w ≤ length output
       → pack_outcome values w (length output - at) ≡ ok (packed w values)
   unfolding pack_outcome
-  packed-laid values w few narrow h =
+  packed_laid values w few narrow h =
       rw (le-leb (length values) max_chunk_elements few, le-leb w 64 narrow, le-leb (packed_len (length values) w) (length output - at) (omega arith))
+
+  module _ {out : List ℕ} {end : Option ℕ} where
+    put_laid : (o : Outcome (List ℕ)) (bytes : List ℕ) → o ≡ ok bytes → (end ≡ laid_end o at) × (out ≡ laid o at output) → Put bytes output at out end
+    put_laid o bytes there put = rw there at put
+
+    pub uvarint_put : (x : ℕ) → at + length (uvarint_bytes x) ≤ length output → PutUvarint x output at out end → Put (uvarint_bytes x) output at out end
+    uvarint_put x h put = put_laid (uvarint_write_outcome x (length output - at)) (uvarint_bytes x) (uvarint_laid x h) put
+
+    pub bytes_put : (bytes : List ℕ) → at + length bytes ≤ length output
+        → (end ≡ laid_end (fitting bytes (length output - at)) at) × (out ≡ laid (fitting bytes (length output - at)) at output) → Put bytes output at out end
+    bytes_put bytes h put = put_laid (fitting bytes (length output - at)) bytes (bytes_laid bytes h) put
+
+    pub packed_put : (values : List ℕ) (w : ℕ) → length values ≤ max_chunk_elements → w ≤ 64 → at + packed_len (length values) w ≤ length output
+        → (end ≡ laid_end (pack_outcome values w (length output - at)) at) × (out ≡ laid (pack_outcome values w (length output - at)) at output)
+        → Put (packed w values) output at out end
+    packed_put values w few narrow h put = put_laid (pack_outcome values w (length output - at)) (packed w values) (packed_laid values w few narrow h) put
+
+-- a call that found room has a place to go on from
+pub put_some : (at : ℕ) (bytes : List ℕ) {end : Option ℕ} → end ≡ Some (at + length bytes) → IsSome end
+put_some at bytes e = rw e refl
 
 -- ---- where there is room for all, a call's bytes are stored, and the rest is to come after them
 
 module _ {whole l : List ℕ} {from : ℕ} {rest out : List ℕ} {at : ℕ} (s : Storing whole l from rest out at) (room : from + length whole ≤ length l) where
-  laid_more : (o : Outcome (List ℕ)) (bytes later : List ℕ) {end : ℕ} {next : List ℕ} → rest ≡ bytes ++ later → o ≡ ok bytes
-      → (end ≡ laid_end o at) × (next ≡ laid o at out) → Storing whole l from later next end
-  laid_more o bytes later e there put = let told = rw there at put in rw (told.0, told.1) (storing-part s bytes later e)
+  module _ (bytes later : List ℕ) (e : rest ≡ bytes ++ later) where
+    pub storing_fits : at + length bytes ≤ length out
+    storing_fits = omega (arith, storing-room s room, ap length e, length-append bytes later)
 
-  pub storing-uvarint : (x : ℕ) (later : List ℕ) {end : ℕ} {next : List ℕ} → rest ≡ uvarint_bytes x ++ later → PutUvarint x out at next end → Storing whole l from later next end
-  storing-uvarint x later e put =
-      let fits : at + uvarint_len x ≤ length out = omega (arith, storing-room s room, ap length e, length-append (uvarint_bytes x) later, length-uvarint_bytes x) in
-      laid_more (uvarint_write_outcome x (length out - at)) (uvarint_bytes x) later e (uvarint-laid at out x fits) put
+    pub storing_put : {next : List ℕ} {end : Option ℕ} {place : ℕ} → Put bytes out at next end → end ≡ Some place → Storing whole l from later next place
+    storing_put {next} {end} {place} put found =
+        let same : place ≡ at + length bytes = same_Some _ _ (sym found ∙ put.0) in
+        rw (put.1, same) (storing-part s bytes later e)
 
-  pub storing-packed : (values : List ℕ) (w : ℕ) (later : List ℕ) {end : ℕ} {next : List ℕ} → rest ≡ packed w values ++ later → length values ≤ max_chunk_elements → w ≤ 64
-      → (end ≡ laid_end (pack_outcome values w (length out - at)) at) × (next ≡ laid (pack_outcome values w (length out - at)) at out) → Storing whole l from later next end
-  storing-packed values w later e few narrow put =
-      let fits : at + packed_len (length values) w ≤ length out = omega (arith, storing-room s room, ap length e, length-append (packed w values) later, length-packed w values) in
-      laid_more (pack_outcome values w (length out - at)) (packed w values) later e (packed-laid at out values w few narrow fits) put
+  module _ (x : ℕ) (later : List ℕ) {next : List ℕ} {end : Option ℕ} (e : rest ≡ uvarint_bytes x ++ later) (put : PutUvarint x out at next end) where
+    uvarint_there : Put (uvarint_bytes x) out at next end
+    uvarint_there = uvarint_put at out x (storing_fits (uvarint_bytes x) later e) put
+
+    pub storing_uvarint_some : IsSome end
+    storing_uvarint_some = put_some at (uvarint_bytes x) uvarint_there.0
+
+    pub storing_uvarint : {place : ℕ} → end ≡ Some place → Storing whole l from later next place
+    storing_uvarint found = storing_put (uvarint_bytes x) later e uvarint_there found
+
+  module _ (values : List ℕ) (w : ℕ) (later : List ℕ) {next : List ℕ} {end : Option ℕ} (e : rest ≡ packed w values ++ later) (few : length values ≤ max_chunk_elements) (narrow : w ≤ 64)
+      (put : (end ≡ laid_end (pack_outcome values w (length out - at)) at) × (next ≡ laid (pack_outcome values w (length out - at)) at out))
+    where
+      packed_there : Put (packed w values) out at next end
+      packed_there = packed_put at out values w few narrow (omega (arith, storing_fits (packed w values) later e, length-packed w values)) put
+
+      pub storing_packed_some : IsSome end
+      storing_packed_some = put_some at (packed w values) packed_there.0
+
+      pub storing_packed : {place : ℕ} → end ≡ Some place → Storing whole l from later next place
+      storing_packed found = storing_put (packed w values) later e packed_there found
 
 -- ---- a varint of one or two bytes
 
+-- past the end
+pub uvarint_none : (x at : ℕ) (output : List ℕ) → length output ≤ at → PutUvarint x output at output None
+unfolding uvarint_write_outcome
+uvarint_none x at output past = rw (lt-leb (uvarint_len x) (length output - at) (omega (arith, uvarint_len-pos x))) (refl, refl)
+
 module _ (x at : ℕ) (output : List ℕ) (inside : at < length output) where
-  pub one-stored : x < 128 → (at + 1 ≡ laid_end (uvarint_write_outcome x (length output - at)) at) × (set output at x ≡ laid (uvarint_write_outcome x (length output - at)) at output)
-  one-stored h = rw (uvarint-laid at output x (omega (arith, uvarint_len-one x h)), uvarint_bytes-one x h) (refl, refl)
+  pub one-stored : x < 128 → (Some (at + 1) ≡ laid_end (uvarint_write_outcome x (length output - at)) at) × (set output at x ≡ laid (uvarint_write_outcome x (length output - at)) at output)
+  one-stored h = rw (uvarint_laid at output x (omega (arith, length-uvarint_bytes x, uvarint_len_one x h)), uvarint_bytes-one x h) (refl, refl)
 
   module _ (more : 128 ≤ x) (two : x < 16384) where
     long : uvarint_len x ≡ 2
-    long = uvarint_len-more x more (omega arith) ∙ ap suc (uvarint_len-one (x / 128) (omega arith))
+    long = uvarint_len-more x more (omega arith) ∙ ap suc (uvarint_len_one (x / 128) (omega arith))
 
-    pub two-short : length output - at < 2 → (at ≡ laid_end (uvarint_write_outcome x (length output - at)) at) × (output ≡ laid (uvarint_write_outcome x (length output - at)) at output)
+    pub two-short : length output - at < 2 → (None ≡ laid_end (uvarint_write_outcome x (length output - at)) at) × (output ≡ laid (uvarint_write_outcome x (length output - at)) at output)
     unfolding uvarint_write_outcome
     two-short h = rw (lt-leb (uvarint_len x) (length output - at) (omega (arith, long))) (refl, refl)
 
     pub two-stored : 2 ≤ length output - at
-        → (at + 2 ≡ laid_end (uvarint_write_outcome x (length output - at)) at)
+        → (Some (at + 2) ≡ laid_end (uvarint_write_outcome x (length output - at)) at)
         × (set (set output at (x % 128 + 128)) (at + 1) (x / 128) ≡ laid (uvarint_write_outcome x (length output - at)) at output)
     two-stored h =
         let bytes : uvarint_bytes x ≡ (x % 128 + 128) ∷ (x / 128) ∷ []
         = uvarint_bytes-more x more (omega arith) ∙ ap (λ (r : List ℕ). (x % 128 + 128) ∷ r) (uvarint_bytes-one (x / 128) (omega arith)) in
-        rw (uvarint-laid at output x (omega (arith, long)), bytes, add-one at) (refl, refl)
+        rw (uvarint_laid at output x (omega (arith, length-uvarint_bytes x, long)), bytes, add-one at) (refl, refl)
 
 -- ---- a key
 
 module _ (value : ℤ) (at : ℕ) (output : List ℕ) where
-  pub key-short : length output - at < 8 → (at ≡ laid_end (fitting (key_bytes value) (length output - at)) at)
+  pub key-short : length output - at < 8 → (None ≡ laid_end (fitting (key_bytes value) (length output - at)) at)
       × (output ≡ laid (fitting (key_bytes value) (length output - at)) at output)
   unfolding fitting
   key-short h = simp (lt-leb (length (key_bytes value)) (length output - at) (omega (arith, length-key_bytes value, h))) (refl, refl)
 
   pub key-stored : {out : List ℕ} → at ≤ length output → 8 ≤ length output - at → out ≡ sets output at (digits 256 8 (residue value))
-      → (at + 8 ≡ laid_end (fitting (key_bytes value) (length output - at)) at) × (out ≡ laid (fitting (key_bytes value) (length output - at)) at output)
+      → (Some (at + 8) ≡ laid_end (fitting (key_bytes value) (length output - at)) at) × (out ≡ laid (fitting (key_bytes value) (length output - at)) at output)
   unfolding fitting
   key-stored inside room e =
       simp (le-leb (length (key_bytes value)) (length output - at) (omega (arith, length-key_bytes value, room)))
-      (ap (λ (k : ℕ). at + k) (sym (length-key_bytes value)), e ∙ ap (sets output at) (bytes_of value))
+      (ap (λ (k : ℕ). Some (at + k)) (sym (length-key_bytes value)), e ∙ ap (sets output at) (bytes_of value))
 
 -- ---- the header
 
 module _ (id count : ℕ) (output : List ℕ) where
-  pub header-short : length output < header_len count → (0 ≡ laid_end (fitting (header_bytes id count) (length output)) 0)
+  pub header-short : length output < header_len count → (None ≡ laid_end (fitting (header_bytes id count) (length output)) 0)
       × (output ≡ laid (fitting (header_bytes id count) (length output)) 0 output)
   unfolding fitting
   header-short h = simp (lt-leb (length (header_bytes id count)) (length output) (omega (arith, length-header_bytes id count))) (refl, refl)
 
   -- id and version first, then the count's varint after them
-  pub header-stored : {end : ℕ} {out : List ℕ} → header_len count ≤ length output
+  pub header-stored : {end : Option ℕ} {out : List ℕ} → header_len count ≤ length output
       → (end ≡ laid_end (uvarint_write_outcome count (length (set (set output 0 id) 1 1) - 2)) 2)
       × (out ≡ laid (uvarint_write_outcome count (length (set (set output 0 id) 1 1) - 2)) 2 (set (set output 0 id) 1 1))
       → (end ≡ laid_end (fitting (header_bytes id count) (length output)) 0) × (out ≡ laid (fitting (header_bytes id count) (length output)) 0 output)
@@ -198,8 +262,8 @@ module _ (id count : ℕ) (output : List ℕ) where
   header-stored {end} {out} h p =
       let long : length (set (set output 0 id) 1 1) ≡ length output = length-set (set output 0 id) 1 1 ∙ length-set output 0 id in
       let bytes : length (uvarint_bytes count) ≡ uvarint_len count = length-uvarint_bytes count in
-      let q = rw (uvarint-laid 2 (set (set output 0 id) 1 1) count (omega (arith, long, h))) at p in
-      simp (le-leb (suc (suc (length (uvarint_bytes count)))) (length output) (omega (arith, bytes, h))) (omega (arith, q.0), q.1)
+      let q = rw (uvarint_laid 2 (set (set output 0 id) 1 1) count (omega (arith, long, bytes, h))) at p in
+      simp (le-leb (suc (suc (length (uvarint_bytes count)))) (length output) (omega (arith, bytes, h))) (q.0 ∙ ap Some (omega arith), q.1)
 
 -- the length stays
 pub length-laid : (o : Outcome (List ℕ)) (at : ℕ) (output : List ℕ) → length (laid o at output) ≡ length output

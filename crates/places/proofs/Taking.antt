@@ -4,28 +4,30 @@ use mathlib.Core.List.{List, [], ◌++◌}
 use Prim.Native.Nat.{ℕ, ◌+◌, ◌-◌, ◌≤◌, min}
 use native.Mathlib.Omega.{arith}
 use lib.ListN.{length, take, drop, length-drop}
-use Rattle.format.specs.Answers.{count_of}
+use borrow.Author.Rules.{rules}
+use borrow.Author.Tests.{le-leb}
+use Rattle.std.specs.Prelude.{Result, Ok, Err}
+use Rattle.std.specs.Result.{IsOk}
+use Rattle.format.specs.Outcome.{ok}
+use Rattle.format.specs.Answers.{outcome_of}
+use Rattle.format.specs.declared.refusals.Refusal.{Refusal}
 use Rattle.format.specs.Digits.{digits}
 use Rattle.format.specs.Encodings.{max_chunk_elements}
-use Rattle.format.specs.Packing.{packed_len, unpacked, packed_values}
-use Rattle.format.specs.Standalone.{packed_len_answer, unpack_buffer}
+use Rattle.format.specs.Packing.{packed_len, packed_end, unpacked, packed_values}
+use Rattle.format.specs.Standalone.{unpack_answer, unpack_buffer, unpack_outcome}
 use Rattle.format.proofs.Numbers.All.{Below}
 use Rattle.format.proofs.Numbers.Packing.{packed_len-split}
 use Rattle.bitpack.proofs.Blocks.{values-block, unpack-front}
 use Rattle.bitpack.proofs.Parts.{part-rest}
-use Rattle.places.proofs.Blocks.{packed-counted}
 
 -- where nothing is left
 pub none_left : (s : List ℕ) (at w : ℕ) {left : ℕ} → left ≡ 0 → packed_values s at w left ≡ []
 unfolding packed_values unpacked digits
 none_left s at w e = rw e
 
-module _ (s : List ℕ) (at w left : ℕ) {n bytes : ℕ} (e : n ≡ min left 128) (counted : bytes ≡ count_of (packed_len_answer n w))
+module _ (s : List ℕ) (at w left : ℕ) {n bytes : ℕ} (e : n ≡ min left 128) (bytes_of : bytes ≡ packed_len n w)
     (few : left ≤ max_chunk_elements) (narrow : w ≤ 64) (there : at + packed_len left w ≤ length s)
   where
-    bytes_of : bytes ≡ packed_len n w
-    bytes_of = counted ∙ packed-counted n w (omega arith) narrow
-
     parted : packed_len n w + packed_len (left - n) w ≡ packed_len left w
     parted =
         let a : n ≡ min 128 left = omega arith in
@@ -44,3 +46,16 @@ module _ (s : List ℕ) (at w left : ℕ) {n bytes : ℕ} (e : n ≡ min left 12
         let front : take n back ≡ packed_values s at w n
         = ap (take n) (eb ∙ ap (λ (r : List ℕ). unpack_buffer r w n block) (part-rest at s)) ∙ unpack-front w n (drop at s) block narrow (omega arith) room (omega arith) in
         rw (← e, ← bytes_of) at (values-block w s at left h) ∙ ap (λ (l : List ℕ). l ++ packed_values s (at + bytes) w (left - n)) (sym front)
+
+    -- which is not refused
+    pub block-unpacked : (block : List ℕ) → length block ≡ 128 → (r : Result ℕ Refusal) → outcome_of r ≡ unpack_answer (take (length s - at) (drop at s)) w n (length block) → IsOk r
+    unfolding unpack_answer unpack_outcome packed_end
+    block-unpacked block hb r told =
+        let part = take (length s - at) (drop at s) in
+        let room : packed_len n w ≤ length part - 0 = omega (arith, parted, there, ap length (part-rest at s), length-drop at s) in
+        go r
+        (simp (le-leb n max_chunk_elements (omega (arith, e, few)), le-leb w 64 narrow, le-leb (packed_len n w) (length part - 0) room, le-leb n (length block) (omega (arith, e, hb))) at told)
+      where
+        go : (r : Result ℕ Refusal) {m : ℕ} → outcome_of r ≡ ok m → IsOk r
+        go (Ok v) t = search rules
+        go (Err refusal) t = let z : ◌≡◌ {A = ℕ} 0 1 = cc in absurd (omega arith)

@@ -5,6 +5,7 @@ ghost use Rattle.format.specs.Packing.{packed_len, packed};
 
 use crate::block::BLOCK;
 use crate::put_packed;
+use bitpack::width::Width;
 
 // What is packed of each value of a column: its code.
 pub trait Coding {
@@ -16,7 +17,8 @@ pub trait Coding {
         ensures kept { code self.new ≡ code self.old };
 }
 
-// The codes of a part of a column, at the front of `block`.
+// The codes of a part of a column, at the front of `block`. Tried: `iter_mut` with `zip` in place of `block[j]`; no proof closed, as the library
+// says nothing of the elements that are lent so.
 fn put_codes<C: Coding>(part: &[i64], coding: &mut C, block: &mut [u64])
     requires { length part.now ≤ length block.old }
     ensures value { block.new ≡ sets block.old 0 (map (C.code coding.old) part.now) }
@@ -28,14 +30,20 @@ fn put_codes<C: Coding>(part: &[i64], coding: &mut C, block: &mut [u64])
 }
 
 // Packs the codes of a column to `out` from `start` on.
-pub fn pack_by<C: Coding>(column: &[i64], coding: &mut C, width: u32, out: &mut [u8], start: usize)
-    requires { (width ≤ 64) × (start + packed_len (length column.now) width ≤ length out.old) }
-    ensures { out.new ≡ sets out.old start (packed width (map (C.code coding.old) column.now)) }
+pub fn pack_by<C: Coding>(
+    column: &[i64],
+    coding: &mut C,
+    width: Width,
+    out: &mut [u8],
+    start: usize,
+)
+    requires { start + packed_len (length column.now) width.bits ≤ length out.old }
+    ensures { out.new ≡ sets out.old start (packed width.bits (map (C.code coding.old) column.now)) }
 {
     let mut block = [0u64; BLOCK];
     let mut at = start;
     for part in column.chunks(BLOCK) {
         put_codes(part, coding, &mut block);
-        at = put_packed(&block[..part.len()], width, out, at);
+        at = put_packed(&block[..part.len()], width.bits, out, at).unwrap();
     }
 }

@@ -1,8 +1,7 @@
 // Storing what is made of each value of a packed body.
-ghost use Rattle.std.specs.Prelude.{◌≡◌, ℕ, ℤ, List, [], ◌∷◌, ◌++◌, ◌+◌, ◌≤◌, length, drop, get_or};
+ghost use Rattle.std.specs.Prelude.{◌≡◌, ℕ, ℤ, List, [], ◌∷◌, ◌++◌, ◌+◌, ◌≤◌, length, drop};
 ghost use Rattle.std.proofs.lemmas.List.Edits.{sets};
-ghost use Rattle.format.specs.Packing.{packed_values};
-ghost use Rattle.places.specs.Packed.{Inside};
+ghost use Rattle.places.specs.Blocks.{to_come};
 
 use crate::block::{BLOCK, Blocks};
 
@@ -16,7 +15,7 @@ pub trait Decoding {
     ghost none: { (s : Self) (olds : List ℤ) → values s [] olds ≡ [] };
 }
 
-// The values of a block, stored in the column from `from` on.
+// The values of a block, stored in the column from `from` on, by places as in `put_codes` of `packed`.
 fn put_values<D: Decoding>(block: &[u64], decoding: &mut D, column: &mut [i64], from: usize)
     requires { from + length block.now ≤ length column.old }
     ensures { (later : List ℕ) → sets column.new (from + length block.now) (D.values decoding.new later (drop (from + length block.now) column.new))
@@ -27,19 +26,13 @@ fn put_values<D: Decoding>(block: &[u64], decoding: &mut D, column: &mut [i64], 
     }
 }
 
-// Fills the front of a column with what is made of the `count` values that are packed after the width byte at `place`.
-pub fn fill_by<D: Decoding>(
-    chunk: &[u8],
-    place: usize,
-    count: usize,
-    decoding: &mut D,
-    column: &mut [i64],
-)
-    requires { Inside chunk.now place count × (count ≤ length column.old) }
-    ensures { column.new ≡ sets column.old 0
-        (D.values decoding.old (packed_values chunk.now (place + 1) (get_or chunk.now place 0) count) column.old) }
+// Fills the front of a column with what is made of the values that are to come. The cursor says how many values a block has, and `i` adds
+// them up: a walk over `chunks_mut` beside it is no plainer, since it would count the blocks a second time.
+pub fn fill_by<D: Decoding>(blocks: Blocks<'_>, decoding: &mut D, column: &mut [i64])
+    requires { length (to_come blocks) ≤ length column.old }
+    ensures { column.new ≡ sets column.old 0 (D.values decoding.old (to_come blocks.entry) column.old) }
 {
-    let mut blocks = Blocks::new(chunk, place, count);
+    let mut blocks = blocks;
     let mut block = [0u64; BLOCK];
     let mut i = 0;
     while let Some(n) = blocks.next(&mut block) {

@@ -18,7 +18,8 @@ const ENCODINGS: [Encoding; 7] = [
     Encoding::DeltaBinaryPacked,
 ];
 
-// A candidate's length, 0 where it is not available.
+// A candidate's length, 0 where it is not available. Who asks has Plain or the best one, which are; an `Option` would be no plainer, since
+// a plan's lengths are numbers and it would only be unwrapped again.
 #[tactic(auto, unfolding(format::specs::Estimates::length_in))]
 pub(crate) fn length_in(estimates: SizeEstimates, encoding: Encoding) -> usize
     ensures { result ≡ length_in estimates encoding }

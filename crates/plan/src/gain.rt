@@ -3,7 +3,7 @@ ghost use Rattle.std.specs.Prelude.{◌≡◌, ◌≤◌};
 ghost use Rattle.format.specs.Plan.{meets_gain};
 ghost use Rattle.plan.specs.Gain.{level_gain};
 
-use crate::ratio::as_float;
+use std::num::nearest_usize_to_f64;
 
 // The fraction of Plain's length that has to be saved at a level: the Rust's `CompressionLevel::minimum_gain`. Nothing gains
 // what level 0 asks for, and a plan at level 0 does not ask.
@@ -20,11 +20,12 @@ pub fn minimum_gain(level: u32) -> f64
 }
 
 // Whether a length, as f64, does not exceed what is left of Plain's when the gain is taken off: one product, rounded once.
+// The nearest f64s are made as in `ratio`.
 #[tactic(auto, using(crate::proofs::Literals::one), unfolding(crate::specs::Gain::level_gain, format::specs::Plan::meets_gain, format::specs::Plan::threshold))]
 pub(crate) fn meets_gain(level: u32, plain: usize, bytes: usize) -> bool
     requires { 1 ≤ level }
     ensures { result ≡ meets_gain level plain bytes }
 {
-    let threshold = as_float(plain) * (1.0 - minimum_gain(level));
-    !(as_float(bytes) > threshold)
+    let threshold = nearest_usize_to_f64(plain) * (1.0 - minimum_gain(level));
+    !(nearest_usize_to_f64(bytes) > threshold)
 }

@@ -1,25 +1,20 @@
 // The two quotients that travel with a plan, as f64.
 ghost use Rattle.std.specs.Prelude.{◌≡◌};
-ghost use Rattle.format.specs.Plan.{as_float, run_density, estimated_ratio};
+ghost use Rattle.format.specs.Plan.{run_density, estimated_ratio};
 ghost use Rattle.plan.specs.Ratio.{quotient_or};
 
 use format::IntegerStats;
+use std::num::nearest_usize_to_f64;
 
-// The f64 nearest to a number: the Rust's `as f64`.
-pub(crate) fn as_float(n: usize) -> f64
-    ensures { result ≡ as_float n }
-{
-    std::num::nearest_u64_to_f64(n as u64)
-}
-
-// A quotient of two numbers, or `none` where the divisor is 0.
+// A quotient of two numbers, or `none` where the divisor is 0. The Rust has `as f64`. Tried, and no proof closed: Rattle's rule holds only of
+// a number that an f64 holds exactly.
 fn quotient(n: usize, divisor: usize, none: f64) -> f64
     ensures { result ≡ quotient_or n divisor none }
 {
     if divisor == 0 {
         return none;
     }
-    as_float(n) / as_float(divisor)
+    nearest_usize_to_f64(n) / nearest_usize_to_f64(divisor)
 }
 
 // Runs by values.

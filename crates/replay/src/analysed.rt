@@ -8,6 +8,14 @@ use format::limits::MAX_DICTIONARY_CARDINALITY;
 use format::{Cardinality, IntegerStats, SizeEstimates, Sortedness};
 use std::alloc::Global;
 
+// In the order of their numbers in a record.
+const SORTEDNESSES: [Sortedness; 4] = [
+    Sortedness::Constant,
+    Sortedness::Ascending,
+    Sortedness::Descending,
+    Sortedness::Unsorted,
+];
+
 pub(crate) fn read_stats(record: &mut Cursor<'_>) -> Result<IntegerStats> {
     Ok(IntegerStats {
         count: record.read_size()?,
@@ -15,7 +23,7 @@ pub(crate) fn read_stats(record: &mut Cursor<'_>) -> Result<IntegerStats> {
         min: record.read_i64()?,
         max: record.read_i64()?,
         run_count: record.read_size()?,
-        sortedness: read_sortedness(record)?,
+        sortedness: record.read_variant("sortedness", &SORTEDNESSES)?,
         cardinality: read_cardinality(record)?,
         value_span: record.read_u64()?,
         max_zigzag: record.read_u64()?,
@@ -25,16 +33,6 @@ pub(crate) fn read_stats(record: &mut Cursor<'_>) -> Result<IntegerStats> {
         delta_max: record.read_i64()?,
         delta_span: record.read_u64()?,
     })
-}
-
-fn read_sortedness(record: &mut Cursor<'_>) -> Result<Sortedness> {
-    match record.read_u8()? {
-        0 => Ok(Sortedness::Constant),
-        1 => Ok(Sortedness::Ascending),
-        2 => Ok(Sortedness::Descending),
-        3 => Ok(Sortedness::Unsorted),
-        other => bail!("sortedness {other}"),
-    }
 }
 
 fn read_cardinality(record: &mut Cursor<'_>) -> Result<Cardinality> {

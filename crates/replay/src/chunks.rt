@@ -58,23 +58,10 @@ pub(crate) fn check(
             .context("a reading has no answer")?;
         column.fill(i64::OLD);
         let name = (reading > 0).then_some(reading);
-        let found = read(chunk, name, false, &mut column);
+        let found = integer::decode_either(chunk, name, false, &mut column);
         tally.add(compare(found, answer.refusal, &told, &column)?)?;
     }
     Ok(question)
-}
-
-// Reads a chunk, named by an encoding's id or not.
-pub(crate) fn read(
-    chunk: &[u8],
-    name: Option<u32>,
-    strict: bool,
-    column: &mut [i64],
-) -> Result<usize, Refusal> {
-    match name {
-        None => integer::decode_integers(chunk, strict, column),
-        Some(id) => integer::decode_named(chunk, id, strict, column),
-    }
 }
 
 // A reading that is accepted leaves the values at the buffer's front, and one that is refused leaves it as it was. A column of 2^24

@@ -1,7 +1,7 @@
 // A file's records, and their fields, which are little-endian.
 ghost use Rattle.std.specs.Prelude.{◌<◌, length, IfSome};
 
-use anyhow::{Context, Result, ensure};
+use anyhow::{Context, Result, bail, ensure};
 use format::{Kind, Refusal};
 
 const END: &[u8] = b"#end\n";
@@ -18,7 +18,8 @@ pub(crate) fn first_record(file: &[u8]) -> Option<(u8, Cursor<'_>, &[u8])>
 {
     let (kind, rest) = file.split_first()?;
     let (length, rest) = rest.split_first_chunk()?;
-    let (fields, others) = rest.split_at_checked(u32::from_le_bytes(*length) as usize)?;
+    let length = usize::try_from(u32::from_le_bytes(*length)).ok()?;
+    let (fields, others) = rest.split_at_checked(length)?;
     Some((*kind, Cursor::new(fields), others))
 }
 
@@ -48,6 +49,7 @@ impl<'a> Cursor<'a> {
         Ok(*bytes)
     }
 
+    // Each type has a function of its own, since `from_le_bytes` is of no trait: one for these five calls is no plainer.
     pub(crate) fn read_u8(&mut self) -> Result<u8> {
         Ok(u8::from_le_bytes(self.read_array()?))
     }
@@ -70,7 +72,21 @@ impl<'a> Cursor<'a> {
 
     // A count or a length of four bytes.
     pub(crate) fn read_size(&mut self) -> Result<usize> {
-        Ok(self.read_u32()? as usize)
+        Ok(usize::try_from(self.read_u32()?)?)
+    }
+
+    // A place or an offset of eight bytes.
+    pub(crate) fn read_place(&mut self) -> Result<usize> {
+        Ok(usize::try_from(self.read_u64()?)?)
+    }
+
+    // One of these variants, by its number, which is its place among them; `name` is what a refusal calls them.
+    pub(crate) fn read_variant<T: Copy>(&mut self, name: &str, variants: &[T]) -> Result<T> {
+        let number = self.read_u8()?;
+        let Some(variant) = variants.get(usize::from(number)) else {
+            bail!("{name} {number}");
+        };
+        Ok(*variant)
     }
 
     // A refusal's number, which is 0 where there is none.
@@ -85,7 +101,7 @@ impl<'a> Cursor<'a> {
     pub(crate) fn read_refusal(&mut self) -> Result<Option<Refusal>> {
         let kind = self.read_kind()?;
         let _is_compared = self.read_u8()?;
-        let offset = self.read_u64()? as usize;
+        let offset = self.read_place()?;
         Ok(kind.map(|kind| kind.at(offset)))
     }
 

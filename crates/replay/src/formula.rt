@@ -61,9 +61,9 @@ impl Formula {
     pub(crate) fn keys(&self, alloc: Global, count: usize) -> Result<Vec<i64>> {
         let mut keys = Vec::new(alloc);
         let mut state = self.seed;
-        for i in 0..count {
+        for i in 0..u64::try_from(count)? {
             state = next_state(state);
-            keys.push(self.key(i as u64, state).cast_signed())?;
+            keys.push(self.key(i, state).cast_signed())?;
         }
         Ok(keys)
     }

@@ -43,7 +43,7 @@ fn gain(
     let planned = plan::analyze(&column, LEVEL, &mut scratch).map(|found| found.plan);
     let is_right = planned.is_ok_and(|plan| {
         plan.plain_bytes == 1060
-            && plan.estimates.lengths[1] == Some(best)
+            && plan.estimates.lengths[Encoding::Varint as usize] == Some(best)
             && (plan.encoding, plan.reason, plan.estimated_bytes) == choice
     });
     entry(rt, what, planned.map(|plan| plan.estimated_bytes), is_right)

@@ -61,16 +61,17 @@ fn varint_written<F: FnOnce(&mut [u8]) -> Result<usize, Refusal>>(
     Ok(())
 }
 
-// Reading at a place, unsigned and signed. The value and the next place of a refused reading are stored as 0.
+// Reading at a place, unsigned and signed.
 fn varint_read(mut record: Cursor<'_>) -> Result<Question> {
-    let at = record.read_u64()? as usize;
+    let at = record.read_place()?;
     let refusal = record.read_refusal()?;
     let value = record.read_u64()?;
     let key = record.read_i64()?;
-    let next = record.read_u64()? as usize;
+    let next = record.read_place()?;
     let length = usize::from(record.read_u16()?);
     let bytes = record.read_bytes(length)?;
     record.end()?;
+    // Of a refused reading the value and the next place are stored as 0.
     let read = varint::read_uvarint(bytes, at).map(|read| (read.value, read.next));
     ensure!(read.err() == refusal, "read_uvarint's refusal");
     ensure!(

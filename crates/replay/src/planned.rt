@@ -3,7 +3,7 @@ use crate::buffers::{KEYS, lend};
 use crate::columns::Column;
 use crate::cursor::Cursor;
 use crate::tally::{Question, Tally};
-use anyhow::{Context, Result, bail, ensure};
+use anyhow::{Context, Result, ensure};
 use format::{Encoding, EncodingPlan, PlanReason};
 use std::alloc::Global;
 
@@ -20,29 +20,27 @@ pub(crate) struct Plan {
     estimated_ratio: u64,
 }
 
+// In the order of their numbers in a record.
+const REASONS: [PlanReason; 4] = [
+    PlanReason::Empty,
+    PlanReason::CompressionDisabled,
+    PlanReason::SmallestEstimate,
+    PlanReason::GainBelowThreshold,
+];
+
 pub(crate) fn read_plans(record: &mut Cursor<'_>, alloc: Global) -> Result<Vec<Plan>> {
     let mut plans = Vec::new(alloc);
     for _ in 0..record.read_u8()? {
         plans.push(Plan {
             levels: record.read_u16()?,
             encoding: Encoding::try_from(u32::from(record.read_u8()?))?,
-            reason: read_reason(record)?,
+            reason: record.read_variant("reason", &REASONS)?,
             estimated_bytes: record.read_size()?,
             plain_bytes: record.read_size()?,
             estimated_ratio: record.read_u64()?,
         })?;
     }
     Ok(plans)
-}
-
-fn read_reason(record: &mut Cursor<'_>) -> Result<PlanReason> {
-    match record.read_u8()? {
-        0 => Ok(PlanReason::Empty),
-        1 => Ok(PlanReason::CompressionDisabled),
-        2 => Ok(PlanReason::SmallestEstimate),
-        3 => Ok(PlanReason::GainBelowThreshold),
-        other => bail!("reason {other}"),
-    }
 }
 
 // The ten plans; each leaves the scratch as the call for statistics left it.

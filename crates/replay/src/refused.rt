@@ -2,12 +2,10 @@
 use crate::buffers::{KEYS, are_old, lend};
 use crate::text::entry;
 use format::limits::MAX_DICTIONARY_CARDINALITY;
-use format::{EncodingPlan, IntegerStats, Kind};
+use format::{Encoding, EncodingPlan, IntegerStats, Kind};
 use rows::{EstimatesRow, PlanRow, StatsRow};
 use std::alloc::{AllocError, Global};
 use std::io;
-
-const DICTIONARY: u32 = 6;
 
 pub(crate) fn run(rt: &(impl Print + AllocGlobal)) -> io::Result<()> {
     short_scratch(rt)?;
@@ -18,7 +16,7 @@ pub(crate) fn run(rt: &(impl Print + AllocGlobal)) -> io::Result<()> {
 // A scratch of one place too few is left as it was.
 fn short_scratch(rt: &(impl Print + AllocGlobal)) -> io::Result<()> {
     let mut scratch = lend(rt.alloc(), 2)?;
-    let answer = integer::encode_integers(&[3, 1, 2], DICTIONARY, &mut scratch, &mut [0; 16]);
+    let answer = integer::encode(Encoding::Dictionary, &[3, 1, 2], &mut scratch, &mut [0; 16]);
     entry(
         rt,
         "three keys as a Dictionary chunk, into a scratch of two places",
@@ -32,7 +30,7 @@ fn short_scratch(rt: &(impl Print + AllocGlobal)) -> io::Result<()> {
 fn one_too_many(rt: &(impl Print + AllocGlobal)) -> io::Result<()> {
     let column = falling(rt.alloc())?;
     let mut scratch = lend(rt.alloc(), KEYS)?;
-    let answer = integer::encode_integers(&column, DICTIONARY, &mut scratch, &mut [0; 16]);
+    let answer = integer::encode(Encoding::Dictionary, &column, &mut scratch, &mut [0; 16]);
     entry(
         rt,
         "16,385 falling keys as a Dictionary chunk, and the scratch then",
@@ -85,15 +83,15 @@ const NO_ESTIMATES: EstimatesRow = EstimatesRow {
     available: [0; 7],
 };
 
-fn is_no_plan(plan: PlanRow) -> bool {
-    plan.encoding == 1
-        && plan.estimated_bytes == 0
-        && plan.plain_bytes == 0
-        && plan.reason == 0
-        && plan.run_density == 0.0
-        && plan.estimated_ratio == 0.0
-        && plan.estimates == NO_ESTIMATES
-}
+const NO_PLAN: PlanRow = PlanRow {
+    encoding: 1,
+    estimated_bytes: 0,
+    plain_bytes: 0,
+    reason: 0,
+    run_density: 0.0,
+    estimated_ratio: 0.0,
+    estimates: NO_ESTIMATES,
+};
 
 // A refused call has no record; the C interface then stores the default's row. The level is asked first: before the
 // scratch, which is too short as well.
@@ -108,7 +106,7 @@ fn no_records(rt: &(impl Print + AllocGlobal)) -> io::Result<()> {
         answer == Err(Kind::ScratchTooShort.at(0)) && are_old(&scratch) && has_no_stats,
     )?;
     let answer = plan::analyze(&[3, 1, 2], 10, &mut scratch).map(|found| found.stored);
-    let has_no_plan = is_no_plan(PlanRow::from(EncodingPlan::default()));
+    let has_no_plan = PlanRow::from(EncodingPlan::default()) == NO_PLAN;
     entry(
         rt,
         "their plan at level 10",

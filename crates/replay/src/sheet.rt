@@ -1,12 +1,9 @@
 // Document 01's sample sheet: the entries on chunks and estimates that are not proved. A line for each: the port's answer, and whether it
 // is document 01's.
 use crate::buffers::Element;
-use crate::chunks::read;
 use crate::text::entry;
-use format::{Kind, Refusal};
+use format::{Encoding, Kind, Refusal};
 use std::io;
-
-const DELTA: u32 = 7;
 
 const KEYS: usize = 130;
 
@@ -22,7 +19,7 @@ fn rising_at_the_end(rt: &impl Print) -> io::Result<()> {
     column[KEYS - 1] = 1000;
 
     let mut out = [0; 12];
-    let answer = integer::encode_integers(&column, DELTA, &mut [], &mut out);
+    let answer = integer::encode(Encoding::DeltaBinaryPacked, &column, &mut [], &mut out);
     let is_right = answer == Ok(12) && out == *chunk;
     entry(
         rt,
@@ -32,14 +29,15 @@ fn rising_at_the_end(rt: &impl Print) -> io::Result<()> {
     )?;
 
     let mut back = [1; KEYS];
-    let answer = read(chunk, None, false, &mut back);
+    let answer = integer::decode_integers(chunk, false, &mut back);
     let is_right = answer == Ok(KEYS) && back == column;
     entry(rt, "that chunk, read", answer, is_right)?;
 
     // The estimate packs all deltas at the width of the widest.
     let mut scratch = [0; KEYS];
     let survey = estimates::estimate_sizes(&column, &mut scratch);
-    let answer = survey.map(|survey| survey.estimates.lengths[6].unwrap_or(0));
+    let delta = Encoding::DeltaBinaryPacked as usize;
+    let answer = survey.map(|survey| survey.estimates.lengths[delta].unwrap_or(0));
     let stored = survey.map(|survey| survey.analysis.stored);
     entry(
         rt,
@@ -95,7 +93,7 @@ fn entries() -> [Entry; 6] {
 fn one_value(rt: &impl Print) -> io::Result<()> {
     for (what, chunk, expected) in entries() {
         let mut column = [i64::OLD];
-        let answer = read(chunk, None, false, &mut column);
+        let answer = integer::decode_integers(chunk, false, &mut column);
         let value = if expected.is_ok() { 0 } else { i64::OLD };
         entry(rt, what, answer, answer == expected && column == [value])?;
     }

@@ -1,6 +1,5 @@
 // What the port writes of a column, and reads back, in each encoding: the chunks and the distinct values of data/columns.bin.
 use crate::buffers::{BYTES, KEYS, Told, are_old, begins, lend};
-use crate::chunks::read;
 use crate::columns::Column;
 use crate::cursor::Cursor;
 use crate::tally::{Question, Tally};
@@ -56,7 +55,7 @@ fn chunk(column: &Column, encoding: Encoding, told: &Told<u8>, alloc: Global) ->
     for name in [None, Some(id)] {
         for strict in [false, true] {
             let mut back = lend(alloc, KEYS)?;
-            let answer = read(chunk, name, strict, &mut back);
+            let answer = integer::decode_either(chunk, name, strict, &mut back);
             ensure!(answer == Ok(column.keys.len()), "reading a chunk back");
             ensure!(begins(&back, &column.keys), "the keys read back");
         }

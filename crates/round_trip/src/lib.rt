@@ -34,7 +34,8 @@ fn ended(planned: Result<Planned, Refusal>, written: Option<Result<usize, Refusa
 // Plans a column at a level, writes it in the encoding planned, and reads the bytes that writing stored, named by that encoding or
 // not, strictly or not: what comes back is the same in all four. The scratch that planning left is lent on to writing. Whatever the
 // arguments, the contract says what each step answers and what the buffers hold; and that the third demand holds where what it
-// names is lent.
+// names is lent. `naming` stays a `bool`: it says only whether the encoding that was planned is named too, and is no value of the caller's,
+// so an `Option` is no plainer.
 pub fn round_trip(
     column: &[i64],
     level: u32,
@@ -64,7 +65,7 @@ pub fn round_trip(
     let Ok(stored) = written else {
         return ended(planned, Some(written));
     };
-    let name = naming.then_some(encoding.id() as u32);
+    let name = naming.then_some(u32::from(encoding.id()));
     let read = decode_either(&out[..stored], name, strict, back);
     Trip {
         planned,

@@ -30,7 +30,7 @@ pub struct StatsRow {
     pub delta_span: u64,
 }
 
-// `wb_estimates`: 0 and 0 where a candidate is not available.
+// `wb_estimates`: 0 and 0 where a candidate is not available. Two arrays, for the C interface: the header's struct has them.
 #[repr(C)]
 #[derive(Clone, Copy, Debug, PartialEq, Eq)]
 pub struct EstimatesRow {
@@ -40,7 +40,7 @@ pub struct EstimatesRow {
 
 // `wb_plan`.
 #[repr(C)]
-#[derive(Clone, Copy, Debug)]
+#[derive(Clone, Copy, Debug, PartialEq)]
 pub struct PlanRow {
     // The id.
     pub encoding: u64,

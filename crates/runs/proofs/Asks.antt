@@ -5,12 +5,15 @@ use Prim.Native.Nat.{ℕ, suc, ◌-◌, ◌+◌, ◌<◌, ◌≤◌}
 use native.Mathlib.Omega.{arith}
 use lib.Dec.{leb, eqb}
 use borrow.Author.Tests.{leb-true}
+use borrow.Author.Rules.{rules}
 use Rattle.std.specs.Prelude.{Option}
+use Rattle.std.specs.Option.{IsSome}
+use Rattle.varint.specs.Finding.{found_in}
 use Rattle.format.specs.Outcome.{Outcome, refused, ok, check, ◌>>=◌}
 use Rattle.format.specs.Varint.{read_uvarint, uvarint_at, first_padded, validate_uvarints}
 use Rattle.format.specs.Runs.{validate_runs, validate_run_length}
 use Rattle.format.specs.declared.Extent.{Extent}
-use Rattle.format.specs.declared.Uvarint.{Uvarint}
+use Rattle.format.specs.Varint.{Uvarint}
 use Rattle.format.proofs.Codecs.Outcome.{both-passed, check-passed}
 use Rattle.format.proofs.Codecs.Counts.{uvarint-again}
 
@@ -35,6 +38,11 @@ module _ (s : List ℕ) (at n i left : ℕ) (padded : Option ℕ) where
   pub runs_end : n ≤ i → validate_runs s at (n - i) left padded ≡ (check (eqb left 0) 16 0 >>= λ _. ok (record { end = at; padded = padded }))
   unfolding validate_runs
   runs_end h = let k : n - i ≡ 0 = omega arith in rw k
+
+-- how many runs a body has that passed was read
+pub passed-read : (s : List ℕ) (start count : ℕ) (padded : Option ℕ) {e : Extent} → validate_run_length s start count padded ≡ ok e → IsSome (found_in s start)
+unfolding validate_run_length
+passed-read s start count padded h = both-passed (read_uvarint s start) _ h λ n r _. rw r (search rules)
 
 -- a body that passed has no more runs than values
 pub passed-few : (s : List ℕ) (start count : ℕ) (padded : Option ℕ) {e : Extent} → validate_run_length s start count padded ≡ ok e → (uvarint_at s start).value ≤ count

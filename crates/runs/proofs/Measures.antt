@@ -11,20 +11,17 @@ use Rattle.format.specs.Varint.{uvarint_len, varint_len, uvarint_bytes}
 use Rattle.format.specs.Runs.{Run, runs, run_bytes, run_body}
 use Rattle.format.proofs.Numbers.Keys.{length-varint_bytes}
 use Rattle.format.proofs.Numbers.Uvarints.{length-uvarint_bytes}
-use Rattle.format.proofs.Numbers.Widths.{uvarint_len-le}
+use Rattle.format.proofs.Numbers.Widths.{uvarint_len_le}
 use Rattle.format.proofs.Lengths.Parts.{length-run_bytes}
 use Rattle.format.proofs.Lengths.Limits.{total-run_len-most}
 use Rattle.runs.specs.RunAt.{to_come}
 use Rattle.runs.specs.declared.writing.Runs.{Runs}
 use Rattle.runs.proofs.RunEnds.{taken, none_after}
 
--- a varint has ten bytes at most, and a header twelve
-pub uvarint_len_most : (n : ℕ) → uvarint_len n ≤ 10
-uvarint_len_most n = uvarint_len-le n
-
+-- a header has twelve bytes at most
 pub header_most : (count : ℕ) → header_len count ≤ 12
 unfolding header_len
-header_most count = omega (arith, uvarint_len-le count)
+header_most count = omega (arith, uvarint_len_le count)
 
 -- how long the bytes of a run and of those after it are
 length-first : (r : Run) (rs : List Run) → length (run_bytes (r ∷ rs)) ≡ varint_len r.key + uvarint_len r.times + length (run_bytes rs)

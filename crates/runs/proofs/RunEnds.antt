@@ -1,18 +1,22 @@
 -- Where a run of a column ends: the walk of `runs_from` keeps the key it began with and counts on while the values are the same, and another value, or the
 -- column's end, closes the run. The machine's test of two keys compares their bits, which are the same where the keys are.
 use mathlib.Core.Path.{◌≡◌, refl, sym, ap, ◌∙◌}
-use mathlib.Core.Bool.{Bool, true, false, ◌&&◌}
+use mathlib.Core.Bool.{Bool, true, false, ◌&&◌, and-true}
 use mathlib.Core.List.{List, [], ◌∷◌}
 use Prim.Native.Nat.{ℕ, zero, suc, ◌+◌, ◌^◌, ◌≤◌, ◌<◌}
-use native.Mathlib.Nat.{add-zero, add-suc}
+use native.Mathlib.Nat.{add-zero}
 use native.Mathlib.Numerals.{add-one}
 use native.Mathlib.Omega.{arith}
 use lib.Dec.{eqb}
 use lib.IntN.{ℤ, pos}
 use lib.Signed.{mag}
-use lib.ListN.{length, get_or, drop, drop_of_length-le}
+use lib.ListN.{length, get_or, take, drop, drop_of_length-le}
 use lib.Seq.{drop-cons}
 use Rattle.std.specs.Prelude.{map}
+use Rattle.std.specs.List.{list_all}
+use Rattle.std.proofs.lemmas.Bool.{and_parts}
+use Rattle.std.proofs.lemmas.List.Folds.{list_all-append}
+use Rattle.std.proofs.lemmas.List.{take_more}
 use mir.Syntax.{w64}
 use borrow.Author.Rules.{sfits_of}
 use mir.Val.{to_z, of_z}
@@ -21,7 +25,7 @@ use Rattle.format.specs.Keys.{eq_z}
 use Rattle.format.specs.Runs.{Run, runs_from, runs}
 use Rattle.format.proofs.Numbers.Order.{eq_z-true}
 use Rattle.number.proofs.Signed.{same_bits}
-use Rattle.runs.specs.RunAt.{run_of, Running, FirstRun, same_key, same_from, parts, to_come}
+use Rattle.runs.specs.RunAt.{run_of, Running, FirstRun, same_key, parts, to_come}
 use Rattle.runs.specs.declared.writing.Runs.{Runs}
 
 -- a walk meets the same value once more,
@@ -80,33 +84,32 @@ module _ (values : List ℤ) where
 
 -- ---- eight at a time
 
--- where two tests hold, each does
-and_first : (a b : Bool) → (a && b) ≡ true → a ≡ true
-and_first true b h = refl
-and_first false b h = h
-
-and_second : (a b : Bool) → (a && b) ≡ true → b ≡ true
-and_second true b h = h
-and_second false b h = cc
-
--- n values more
-pub running_several : (values : List ℤ) {end : ℕ} → Running values end → (n : ℕ) → end + n ≤ length values → same_from values end n ≡ true
-    → Running values (end + n)
-unfolding same_from
+-- n values more, which are all the key
+pub running_several : (values : List ℤ) {end : ℕ} → Running values end → (n : ℕ) → end + n ≤ length values
+    → list_all (eq_z (get_or values 0 (pos 0))) (take n (drop end values)) ≡ true → Running values (end + n)
 running_several values {end} r zero h e = rw (add-zero end) r
 running_several values {end} r (suc n) h e =
-    let before = running_several values r n (omega arith) (and_first (same_from values end n) (same_key values (end + n)) e) in
-    let more = running_more values before (omega arith) (and_second (same_from values end n) (same_key values (end + n)) e) in
-    rw (add-suc end n) (rw (add-one (end + n)) at more)
+    let here : end < length values = omega arith in
+    let all = and_parts (same_key values end) _ (rw (from_end values r here) at e) in
+    let more = running_more values r here all.0 in
+    let next : end + 1 + n ≡ end + suc n = omega arith in
+    rw next at (running_several values {end = end + 1} more n (omega arith) all.1)
 
--- none, and one more
-pub same_none : (values : List ℤ) (at : ℕ) → same_from values at 0 ≡ true
-unfolding same_from
-same_none values at = refl
+-- eight, by the key's bits
+pub running_eight : (values : List ℤ) {end : ℕ} → Running values end → {key : ℤ} → key ≡ get_or values 0 (pos 0) → {n : ℕ} → n ≡ 8 → end + 8 ≤ length values
+    → true ≡ list_all (eq_z key) (take n (drop end values)) → Running values (end + 8)
+running_eight values r k many h e = running_several values r 8 h (sym (rw (k, many) at e))
 
-pub same_more : (values : List ℤ) (at n : ℕ) → same_from values at (n + 1) ≡ (same_from values at n && same_key values (at + n))
-unfolding same_from
-same_more values at n = rw (add-one n)
+-- the values that were asked so far
+pub all_none : (key : ℤ) (values : List ℤ) → list_all (eq_z key) (take 0 values) ≡ true
+all_none key values = refl
+
+pub all_more : (key : ℤ) (values : List ℤ) (i : ℕ) → i < length values
+    → list_all (eq_z key) (take (i + 1) values) ≡ (list_all (eq_z key) (take i values) && eq_z key (get_or values i (pos 0)))
+all_more key values i h =
+    ap (list_all (eq_z key)) (take_more values i (pos 0) h)
+    ∙ list_all-append (eq_z key) (take i values) (get_or values i (pos 0) ∷ [])
+    ∙ ap (λ (b : Bool). list_all (eq_z key) (take i values) && b) (and-true (eq_z key (get_or values i (pos 0))))
 
 -- ---- the walk
 

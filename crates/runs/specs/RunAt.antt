@@ -1,5 +1,5 @@
 -- The first run of values: where it ends (01, "Written runs are longest possible"); and the runs that a walk has left.
-use Rattle.std.specs.Prelude.{◌≡◌, Bool, true, ◌&&◌, List, ◌∷◌, ℕ, zero, suc, ◌+◌, ◌≤◌, ◌<◌, ℤ, pos, length, get_or, drop, map}
+use Rattle.std.specs.Prelude.{◌≡◌, Bool, List, ◌∷◌, ℕ, ◌≤◌, ◌<◌, ℤ, pos, length, get_or, drop, map}
 use Rattle.format.specs.Keys.{eq_z}
 use Rattle.format.specs.Runs.{Run, runs_from, runs}
 use Rattle.runs.specs.declared.writing.Runs.{Runs}
@@ -23,11 +23,6 @@ pub record FirstRun (values : List ℤ) (end : ℕ) : Type 0 where
 -- the value at `at` is the first
 abbrev pub same_key : List ℤ → ℕ → Bool
 same_key values at = eq_z (get_or values 0 (pos 0)) (get_or values at (pos 0))
-
--- n values from `at` on are
-unfoldable pub same_from : List ℤ → ℕ → ℕ → Bool
-same_from values at zero = true
-same_from values at (suc n) = same_from values at n && same_key values (at + n)
 
 -- the key and the length of a run
 abbrev pub parts : Run → ℤ × ℕ

@@ -1,4 +1,4 @@
-// 5. RunLength: how many runs, then each run's value and length (the Rust's `RunLengthCodec`). There is no `Vec` of runs here: they
+// Encoding 5, RunLength: how many runs, then each run's value and length (the Rust's `RunLengthCodec`). There is no `Vec` of runs here: they
 // are counted, measured where the output could be too short, and stored.
 #![tactic(auto)]
 
@@ -6,8 +6,8 @@ ghost use Rattle.std.specs.Prelude.{◌≡◌, length, refl};
 ghost use Rattle.format.specs.Runs.{runs};
 ghost use Rattle.format.specs.declared.encoding.Encoding.TheVariants as Encodings;
 
-use codec::chunk::{Codec, Encoder};
-use format::{Encoding, Extent, Header, Refusal};
+use codec::chunk::{Body, Codec, Encoder};
+use format::{Column, Encoding, Extent, Refusal};
 use keys::fill_keys;
 use varint::find::find_any;
 
@@ -22,14 +22,15 @@ impl Codec for RunLength {
 
     const ENCODING: Encoding = Encoding::RunLength;
 
-    fn settle_body(chunk: &[u8], strict: bool, header: Header) -> Result<Extent, Refusal> {
-        reading::settle_body(chunk, header)
+    #[tactic(auto, using(codec::proofs::Settling::settled_as), unfolding(format::specs::Chunk::validate_body))]
+    fn settle_body(body: Body<'_>, strict: bool) -> Result<Extent, Refusal> {
+        reading::settle_body(body)
     }
 
-    // A body that passed has no more runs than a chunk has values.
-    fn fill(chunk: &[u8], header: Header, column: &mut [i64]) {
-        let total = find_any(chunk, header.start);
-        fill_keys(chunk, total.next, total.value as usize, true, column)
+    // A body that passed has no more runs than a chunk has values; how many was read before.
+    fn fill(body: Body<'_>, column: &mut [i64]) {
+        let total = find_any(body.chunk, body.header.start).unwrap();
+        fill_keys(body.chunk, total.next, total.value as usize, true, column)
     }
 }
 
@@ -41,17 +42,17 @@ impl Encoder for RunLength {
 
     ghost scratchless = { λ k. refl };
 
-    fn measure(column: &[i64]) -> usize {
-        writing::count_runs(column)
+    fn measure(column: Column<'_>) -> usize {
+        writing::count_runs(column.values)
     }
 
     #[tactic(auto, unfolding(format::specs::Chunk::body_of))]
-    fn lacking(column: &[i64], count: usize, space: usize) -> Option<usize> {
+    fn lacking(column: Column<'_>, count: usize, space: usize) -> Option<usize> {
         writing::lacking(column, count, space)
     }
 
     #[tactic(auto, unfolding(format::specs::Chunk::body_of))]
-    fn store(column: &[i64], count: usize, out: &mut [u8], at: usize) -> usize {
-        writing::store(column, count, out, at)
+    fn store(column: Column<'_>, count: usize, out: &mut [u8], at: usize) -> usize {
+        writing::store(column.values, count, out, at)
     }
 }

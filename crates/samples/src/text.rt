@@ -56,7 +56,7 @@ impl fmt::Display for Refused {
     }
 }
 
-// A count, or a refusal.
+// A count, or a refusal. `replay` tells both without the space, in its `text`: one type for two programs is no plainer.
 #[derive(Drop)]
 pub(crate) struct Answer(pub(crate) Result<usize, Refusal>);
 

@@ -2,7 +2,7 @@
 // 11964378330978735131, the cut inputs and the eleven bytes of 80 and 01 are in its test coded_stream_unittest; ff nine times
 // before 03, and ff ten and eleven times, are in document 01's sample sheet.
 use crate::text::{Answer, Hex, Input, Refused};
-use format::{Refusal, Uvarint, Varint};
+use format::{Read, Refusal};
 use std::{fmt, io};
 
 // A number of either kind of varint: unsigned, or signed by its ZigZag.
@@ -11,8 +11,7 @@ trait Sample: Copy + fmt::Display {
 
     fn write(self, out: &mut [u8]) -> Result<usize, Refusal>;
 
-    // The number, the place after it, and whether it is unpadded.
-    fn read(bytes: &[u8], at: usize) -> Result<(Self, usize, bool), Refusal>;
+    fn read(bytes: &[u8], at: usize) -> Result<Read<Self>, Refusal>;
 }
 
 impl Sample for u64 {
@@ -24,13 +23,8 @@ impl Sample for u64 {
         varint::write_uvarint(self, out)
     }
 
-    fn read(bytes: &[u8], at: usize) -> Result<(u64, usize, bool), Refusal> {
-        let Uvarint {
-            value,
-            next,
-            unpadded,
-        } = varint::read_uvarint(bytes, at)?;
-        Ok((value, next, unpadded))
+    fn read(bytes: &[u8], at: usize) -> Result<Read<u64>, Refusal> {
+        varint::read_uvarint(bytes, at)
     }
 }
 
@@ -43,13 +37,8 @@ impl Sample for i64 {
         varint::write_varint(self, out)
     }
 
-    fn read(bytes: &[u8], at: usize) -> Result<(i64, usize, bool), Refusal> {
-        let Varint {
-            value,
-            next,
-            unpadded,
-        } = varint::read_varint(bytes, at)?;
-        Ok((value, next, unpadded))
+    fn read(bytes: &[u8], at: usize) -> Result<Read<i64>, Refusal> {
+        varint::read_varint(bytes, at)
     }
 }
 
@@ -148,9 +137,9 @@ fn refused(rt: &impl Print) -> io::Result<()> {
 fn read_at<T: Sample>(rt: &impl Print, bytes: &[u8], at: usize) -> io::Result<()> {
     print!(rt; "place {at} of{}:", Input(bytes))?;
     match T::read(bytes, at) {
-        Ok((number, next, unpadded)) => {
-            let padded = if unpadded { "" } else { ", padded" };
-            println!(rt; " {number}, next {next}{padded}")
+        Ok(read) => {
+            let padded = if read.unpadded { "" } else { ", padded" };
+            println!(rt; " {}, next {}{padded}", read.value, read.next)
         }
         Err(refusal) => println!(rt; "{}", Refused(refusal)),
     }

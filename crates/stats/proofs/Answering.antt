@@ -3,13 +3,13 @@
 use mathlib.Core.Path.{◌≡◌, refl, sym, ap, ◌∙◌}
 use mathlib.Core.Bool.{Bool, true, false, not}
 use mathlib.Core.List.{List, []}
-use Prim.Native.Nat.{ℕ, ◌+◌, ◌≤◌}
+use Prim.Native.Nat.{ℕ, ◌+◌, ◌<◌}
 use native.Mathlib.Omega.{arith}
 use lib.IntN.{ℤ}
 use lib.Dec.{leb}
 use lib.ListN.{length, take}
 use borrow.Author.Rules.{rules}
-use borrow.Author.Tests.{leb-true, ltb-true}
+use borrow.Author.Tests.{lt-leb, ltb-true}
 use denote.Enum.Bare.{sameb, same_true, same_false}
 use Rattle.std.specs.Prelude.{Result, Ok, Err}
 use Rattle.std.specs.Result.{result_unwrap_or}
@@ -23,7 +23,6 @@ use Rattle.format.specs.Write.{write_checks, scratch_after_checks, write_scratch
 use Rattle.format.specs.declared.Cardinality.{Cardinality}
 use Rattle.format.specs.declared.Cardinality.TheVariants.{Exact, AtLeast}
 use Rattle.format.specs.declared.encoding.Encoding.TheVariants.{Dictionary}
-use Rattle.format.proofs.Codecs.Outcome.{both-passed, check-passed}
 use Rattle.format.proofs.Numbers.Distinct.{few-distinct, capped_distinct-all, length-capped_distinct}
 use Rattle.format.proofs.Third.Buffers.{distinct_values-part}
 use Rattle.format.specs.Refusals.{kind_number}
@@ -34,7 +33,7 @@ use Rattle.format.specs.contracts.refusals.Kind.{the_type}
 use Rattle.stats.proofs.TooMany.{too_many-number}
 use Rattle.distinct.specs.Collect.{count_outcome, collect_outcome}
 
--- the scratch
+-- the scratch that collecting leaves
 pub same_scratch : (column scratch : List ℤ) → write_scratch 6 column scratch ≡ analysis_scratch column scratch
 unfolding write_scratch write_checks encoding_of encodings analysis_scratch analysis_checks
 same_scratch column scratch = go (leb (length column) max_chunk_elements) (scratch_check column (length scratch))
@@ -44,6 +43,11 @@ same_scratch column scratch = go (leb (length column) max_chunk_elements) (scrat
     go false o = refl
     go true (refused number offset) = refl
     go true (ok done) = refl
+
+-- and the one that a column above the limit leaves
+pub left : (column scratch : List ℤ) → max_chunk_elements < length column → scratch ≡ analysis_scratch column scratch
+unfolding analysis_scratch analysis_checks
+left column scratch h = rw (lt-leb (length column) max_chunk_elements h)
 
 module _ (column : List ℤ) (room : ℕ) where
   -- what an answer of collecting says: 21 or 22 refused it, or 23 did, or the distinct values were counted
@@ -69,19 +73,13 @@ module _ (column : List ℤ) (room : ℕ) where
   -- ---- statistics that are not refused
 
   pub record Analysed (n : ℕ) (cardinality : Cardinality) : Type 0 where
-    pub few : length column ≤ max_chunk_elements
     pub known : cardinality ≡ cardinality_of column
     pub answer : record { answer = ok n; stats = stats_of column } ≡ stats_answer column room
 
   analysed : analysis_checks column room ≡ ok tt → {n : ℕ} {cardinality : Cardinality} → n ≡ length (capped_distinct column) → cardinality ≡ cardinality_of column
       → Analysed n cardinality
-  unfolding analysis_checks stats_answer
-  analysed passed e known =
-      record {
-        few = both-passed (check (leb (length column) max_chunk_elements) 21 0) _ passed λ _ a _. leb-true _ _ (check-passed _ 21 0 a);
-        known = known;
-        answer = rw (passed, e);
-      }
+  unfolding stats_answer
+  analysed passed e known = record { known = known; answer = rw (passed, e) }
 
   pub analysed-exact : {n : ℕ} → Tells (ok n) → Analysed n (Exact n)
   unfolding cardinality_of
@@ -100,6 +98,12 @@ module _ (column : List ℤ) (room : ℕ) where
 
   -- ---- statistics that are refused
 
+  -- a column above the limit
+  pub above : max_chunk_elements < length column → record { answer = refused 21 0; stats = refused_stats } ≡ stats_answer column room
+  unfolding stats_answer analysis_checks
+  above h = rw (lt-leb (length column) max_chunk_elements h)
+
+  -- by collecting
   none-analysed : {number offset : ℕ} → Tells (refused number offset) → (number ≡ 23 → ⊥)
       → record { answer = refused number offset; stats = refused_stats } ≡ stats_answer column room
   unfolding stats_answer

@@ -8,14 +8,14 @@ use native.Mathlib.Nat.{add-zero, max-zero}
 use native.Mathlib.Omega.{arith}
 use lib.IntN.{ℤ, pos}
 use lib.ListN.{length, get_or}
-use lib.Signed.{le_z, lt_z}
-use Rattle.format.specs.Keys.{eq_z, lesser, greater, delta, zigzag}
+use lib.Signed.{le_z}
+use Rattle.format.specs.Keys.{eq_z, delta, zigzag}
 use Rattle.format.specs.Varint.{uvarint_len, varint_len}
 use Rattle.format.specs.Folds.{least_from, least, greatest_from, greatest, largest, total, deltas_from, deltas}
 use Rattle.format.specs.Runs.{runs_from, runs}
 use Rattle.format.specs.Statistics.{non_decreasing, non_increasing, run_len}
-use Rattle.format.proofs.Numbers.Order.{eq_z-true}
-use Rattle.stats.specs.Pass.{first_values, next_values, next_runs, first_delta, first_steps, next_steps, never_falls, never_rises, pass_of}
+use Rattle.format.proofs.Numbers.Order.{eq_z-true, lesser-same, greater-same}
+use Rattle.stats.specs.Pass.{measured, first_values, next_values, next_runs, first_delta, first_steps, next_steps, never_falls, never_rises, pass_of}
 use Rattle.stats.specs.declared.pass.Values.{Values}
 use Rattle.stats.specs.declared.pass.Runs.{Runs}
 use Rattle.stats.specs.declared.pass.Steps.{Steps}
@@ -28,12 +28,12 @@ pub record ValuesTo (column rest : List ℤ) (s : Values) : Type 0 where
   pub most : max s.largest (largest (map zigzag rest)) ≡ largest (map zigzag column)
   pub bytes : s.bytes + total (map varint_len rest) ≡ total (map varint_len column)
 
-pub values-first : (v : ℤ) (vs : List ℤ) → ValuesTo (v ∷ vs) vs (first_values v (zigzag v) (varint_len v))
+pub values-first : (v : ℤ) (vs : List ℤ) → ValuesTo (v ∷ vs) vs (first_values (measured v))
 unfolding least greatest largest total
 values-first v vs = record { low = refl; high = refl; most = refl; bytes = refl }
 
 module _ {column : List ℤ} {s : Values} where
-  pub values-next : {v : ℤ} {vs : List ℤ} → ValuesTo column (v ∷ vs) s → ValuesTo column vs (next_values s v (zigzag v) (varint_len v))
+  pub values-next : {v : ℤ} {vs : List ℤ} → ValuesTo column (v ∷ vs) s → ValuesTo column vs (next_values s (measured v))
   unfolding least_from greatest_from largest total
   values-next k = record { low = k.low; high = k.high; most = omega (arith, k.most); bytes = omega (arith, k.bytes) }
 
@@ -52,7 +52,7 @@ unfolding runs
 runs-first v vs = record { count = omega arith; bytes = omega arith }
 
 module _ {column : List ℤ} {last : ℤ} {r : Runs} where
-  pub runs-next : {v : ℤ} {vs : List ℤ} → RunsTo column last (v ∷ vs) r → RunsTo column v vs (next_runs r last v (varint_len v))
+  pub runs-next : {v : ℤ} {vs : List ℤ} → RunsTo column last (v ∷ vs) r → RunsTo column v vs (next_runs r last (measured v))
   unfolding runs_from total run_len
   runs-next {v} {vs} k = go (eq_z last v) refl k.count k.bytes
     where
@@ -78,11 +78,6 @@ pub record StepsTo (column : List ℤ) (last : ℤ) (rest : List ℤ) (s : Steps
   pub low : least_from s.low (deltas_from last rest) ≡ least (deltas column)
   pub high : greatest_from s.high (deltas_from last rest) ≡ greatest (deltas column)
 
--- a choice between a value and itself
-either : (t : Bool) (a : ℤ) → cond t a a ≡ a
-either true a = refl
-either false a = refl
-
 -- the first delta is there from the second value on
 pub delta-none : (column : List ℤ) → length column < 2 → pos 0 ≡ first_delta column
 unfolding first_delta deltas deltas_from
@@ -98,15 +93,15 @@ delta-first (v ∷ w ∷ ws) h = refl
 
 -- it may be taken twice
 pub steps_first : (v : ℤ) (vs : List ℤ) → StepsTo (v ∷ vs) v vs (first_steps (first_delta (v ∷ vs)))
-unfolding never_falls never_rises first_delta deltas deltas_from least_from least greatest_from greatest lesser greater
+unfolding never_falls never_rises first_delta deltas deltas_from least_from least greatest_from greatest
 steps_first v [] = record { ascending = refl; descending = refl; low = refl; high = refl }
 steps_first v (w ∷ ws) =
     let d = delta v w in
     record {
       ascending = refl;
       descending = refl;
-      low = ap (λ (m : ℤ). least_from m (deltas_from w ws)) (either (lt_z d d) d);
-      high = ap (λ (m : ℤ). greatest_from m (deltas_from w ws)) (either (lt_z d d) d);
+      low = ap (λ (m : ℤ). least_from m (deltas_from w ws)) (lesser-same d);
+      high = ap (λ (m : ℤ). greatest_from m (deltas_from w ws)) (greater-same d);
     }
 
 module _ {column : List ℤ} {last : ℤ} {s : Steps} where

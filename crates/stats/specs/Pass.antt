@@ -6,29 +6,35 @@ use Rattle.format.specs.Varint.{uvarint_len, varint_len}
 use Rattle.format.specs.Folds.{least, greatest, largest, total, deltas}
 use Rattle.format.specs.Runs.{runs}
 use Rattle.format.specs.Statistics.{non_decreasing, non_increasing, run_len}
+use Rattle.stats.specs.declared.pass.Measured.{Measured}
 use Rattle.stats.specs.declared.pass.Values.{Values}
 use Rattle.stats.specs.declared.pass.Runs.{Runs}
 use Rattle.stats.specs.declared.pass.Steps.{Steps}
 use Rattle.stats.specs.declared.pass.Pass.{Pass}
 
--- the first value v, whose ZigZag is z and whose varint has n bytes
-abbrev pub first_values : ℤ → ℕ → ℕ → Values
-first_values v z n = record { low = v; high = v; largest = z; bytes = n }
+-- a value with its ZigZag and the bytes of its varint
+abbrev pub measured : ℤ → Measured
+measured v = record { value = v; zigzag = zigzag v; bytes = varint_len v }
 
--- a value v more, whose ZigZag is z and whose varint has n bytes
-abbrev pub next_values : Values → ℤ → ℕ → ℕ → Values
-next_values s v z n = record { low = lesser s.low v; high = greater s.high v; largest = max s.largest z; bytes = s.bytes + n }
+-- the first value
+abbrev pub first_values : Measured → Values
+first_values m = record { low = m.value; high = m.value; largest = m.zigzag; bytes = m.bytes }
+
+-- a value more
+abbrev pub next_values : Values → Measured → Values
+next_values s m =
+    record { low = lesser s.low m.value; high = greater s.high m.value; largest = max s.largest m.zigzag; bytes = s.bytes + m.bytes }
 
 -- the run of the first value, whose varint has n bytes
 abbrev pub first_runs : ℕ → Runs
 first_runs n = record { count = 1; bytes = n; length = 1 }
 
--- a value v more after a value `last`: the run goes on, or another one begins
-abbrev pub next_runs : Runs → ℤ → ℤ → ℕ → Runs
-next_runs r last v n =
-    cond (eq_z last v)
+-- a value more after a value `last`: the run goes on, or another one begins
+abbrev pub next_runs : Runs → ℤ → Measured → Runs
+next_runs r last m =
+    cond (eq_z last m.value)
     (record { count = r.count; bytes = r.bytes; length = r.length + 1 })
-    (record { count = r.count + 1; bytes = r.bytes + uvarint_len r.length + n; length = 1 })
+    (record { count = r.count + 1; bytes = r.bytes + uvarint_len r.length + m.bytes; length = 1 })
 
 -- the first delta: 0 where there is none
 unfoldable pub first_delta : List ℤ → ℤ

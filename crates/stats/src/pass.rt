@@ -2,7 +2,32 @@
 ghost use Rattle.std.specs.Prelude.{◌≡◌, ◌+◌, ◌*◌, ◌<◌, ◌≤◌, length};
 ghost use Rattle.format.specs.Encodings.{max_chunk_elements};
 ghost use Rattle.format.specs.Varint.{uvarint_len};
-ghost use Rattle.stats.specs.Pass.{first_values, next_values, first_runs, next_runs, first_delta, first_steps, next_steps, pass_of};
+ghost use Rattle.stats.specs.Pass.{measured, first_values, next_values, first_runs, next_runs, first_delta, first_steps, next_steps, pass_of};
+
+use format::Column;
+
+// A value, its ZigZag and the bytes of its varint, which are made once, for its own sake and for its run.
+#[derive(Clone, Copy)]
+pub(crate) struct Measured {
+    pub value: i64,
+    pub zigzag: u64,
+    pub bytes: usize,
+}
+
+impl Measured {
+    // Measures a value.
+    #[tactic(auto, using(number::proofs::Signed::held), unfolding(format::specs::Varint::varint_len))]
+    fn new(value: i64) -> Measured
+        ensures { result ≡ measured value }
+    {
+        let zigzag = number::zigzag_encode(value);
+        Measured {
+            value,
+            zigzag,
+            bytes: varint::uvarint_len(zigzag),
+        }
+    }
+}
 
 // Of the values so far: the least and the greatest, the largest ZigZag, and the bytes of their varints.
 #[derive(Clone, Copy)]
@@ -14,34 +39,36 @@ pub(crate) struct Values {
 }
 
 impl Values {
-    // The first value, with its ZigZag and the bytes of its varint.
-    fn first(value: i64, zigzag: u64, bytes: usize) -> Values
-        ensures { result ≡ first_values value zigzag bytes }
+    // The first value.
+    fn first(measured: Measured) -> Values
+        ensures { result ≡ first_values measured }
     {
         Values {
-            low: value,
-            high: value,
-            largest: zigzag,
-            bytes,
+            low: measured.value,
+            high: measured.value,
+            largest: measured.zigzag,
+            bytes: measured.bytes,
         }
     }
 
-    // A value more, with its ZigZag and the bytes of its varint.
+    // A value more.
     #[tactic(auto, using(number::proofs::Signed::max_greater), unfolding(format::specs::Keys::lesser))]
-    fn next(self, value: i64, zigzag: u64, bytes: usize) -> Values
-        requires { (self.bytes ≤ 10 * max_chunk_elements) × (bytes ≤ 10) }
-        ensures { result ≡ next_values self value zigzag bytes }
+    fn next(self, measured: Measured) -> Values
+        requires { (self.bytes ≤ 10 * max_chunk_elements) × (measured.bytes ≤ 10) }
+        ensures { result ≡ next_values self measured }
     {
         Values {
-            low: self.low.min(value),
-            high: self.high.max(value),
-            largest: self.largest.max(zigzag),
-            bytes: self.bytes + bytes,
+            low: self.low.min(measured.value),
+            high: self.high.max(measured.value),
+            largest: self.largest.max(measured.zigzag),
+            bytes: self.bytes + measured.bytes,
         }
     }
 }
 
-// The runs so far, the bytes of their keys and of all lengths but the last, and that length.
+// The runs so far, the bytes of their keys and of all lengths but the last, and that length. The bound on the bytes stays in two contracts:
+// tried as a ghost field, `bytes ≤ 20 * count`, and the definitions `first_runs` and `next_runs`, which make a record of any numbers, would
+// have to prove it of all.
 #[derive(Clone, Copy)]
 pub(crate) struct Runs {
     pub count: usize,
@@ -61,13 +88,13 @@ impl Runs {
         }
     }
 
-    // A value more, with the bytes of its varint: another one than the last begins a run, so that the last one's length is known.
-    #[tactic(auto, using(crate::proofs::Fields::uvarint_most))]
-    fn next(self, last: i64, value: i64, bytes: usize) -> Runs
-        requires { (self.count ≤ max_chunk_elements) × (self.bytes ≤ 20 * max_chunk_elements) × (self.length ≤ max_chunk_elements) × (bytes ≤ 10) }
-        ensures { result ≡ next_runs self last value bytes }
+    // A value more: another one than the last begins a run, so that the last one's length is known.
+    #[tactic(auto, using(format::proofs::Numbers::Widths::uvarint_len_le))]
+    fn next(self, last: i64, measured: Measured) -> Runs
+        requires { (self.count ≤ max_chunk_elements) × (self.bytes ≤ 20 * max_chunk_elements) × (self.length ≤ max_chunk_elements) × (measured.bytes ≤ 10) }
+        ensures { result ≡ next_runs self last measured }
     {
-        if last == value {
+        if last == measured.value {
             return Runs {
                 length: self.length + 1,
                 ..self
@@ -75,13 +102,13 @@ impl Runs {
         }
         Runs {
             count: self.count + 1,
-            bytes: self.bytes + varint::uvarint_len_small(self.length as u64) + bytes,
+            bytes: self.bytes + varint::uvarint_len_small(self.length as u64) + measured.bytes,
             length: 1,
         }
     }
 
     // The bytes of all runs, with the last one's length.
-    #[tactic(auto, using(crate::proofs::Fields::uvarint_most))]
+    #[tactic(auto, using(format::proofs::Numbers::Widths::uvarint_len_le))]
     fn all_bytes(self) -> usize
         requires { self.bytes ≤ 20 * max_chunk_elements }
         ensures { result ≡ self.bytes + uvarint_len self.length }
@@ -144,24 +171,22 @@ fn first_delta(column: &[i64]) -> i64
     number::wrapping_sub(column[1], column[0])
 }
 
-// The pass. A value's ZigZag and the bytes of its varint are made once, for its own sake and for its run. The index is counted
-// from 1: a walk over `column[1..]` makes the compiler spill a register, for 3 instructions more a value.
-pub(crate) fn walk(column: &[i64]) -> Pass
-    requires { (0 < length column.now) × (length column.now ≤ max_chunk_elements) }
-    ensures { result ≡ pass_of column.now }
+// The pass. The index is counted from 1. Tried: a walk over `column.values[1..]`, for which the compiler spills a register, at 3
+// instructions more a value.
+pub(crate) fn walk(column: Column<'_>) -> Pass
+    requires { 0 < length column.values.now }
+    ensures { result ≡ pass_of column.entry.values.now }
 {
-    let mut last = column[0];
-    let first_zigzag = number::zigzag_encode(last);
-    let first_bytes = varint::uvarint_len(first_zigzag);
-    let mut values = Values::first(last, first_zigzag, first_bytes);
-    let mut runs = Runs::first(first_bytes);
-    let mut steps = Steps::first(first_delta(column));
-    for i in 1..column.len() {
-        let value = column[i];
-        let zigzag = number::zigzag_encode(value);
-        let bytes = varint::uvarint_len(zigzag);
-        values = values.next(value, zigzag, bytes);
-        runs = runs.next(last, value, bytes);
+    let mut last = column.values[0];
+    let first = Measured::new(last);
+    let mut values = Values::first(first);
+    let mut runs = Runs::first(first.bytes);
+    let mut steps = Steps::first(first_delta(column.values));
+    for i in 1..column.values.len() {
+        let value = column.values[i];
+        let measured = Measured::new(value);
+        values = values.next(measured);
+        runs = runs.next(last, measured);
         steps = steps.next(last, value);
         last = value;
     }

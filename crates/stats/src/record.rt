@@ -1,10 +1,9 @@
 // The record of a column's statistics, made of the pass.
-ghost use Rattle.std.specs.Prelude.{◌≡◌, ◌≤◌, length};
-ghost use Rattle.format.specs.Encodings.{max_chunk_elements};
+ghost use Rattle.std.specs.Prelude.{◌≡◌};
 ghost use Rattle.format.specs.Statistics.{sortedness_from, cardinality_of, stats_of};
 
 use crate::pass::walk;
-use format::{Cardinality, IntegerStats, Sortedness};
+use format::{Cardinality, Column, IntegerStats, Sortedness};
 use number::gap;
 
 // By whether the values never fall, and whether they never rise.
@@ -20,19 +19,19 @@ fn sortedness_of(ascending: bool, descending: bool) -> Sortedness
 }
 
 // The record of a column whose cardinality was found.
-pub(crate) fn stats_of(column: &[i64], cardinality: Cardinality) -> IntegerStats
-    requires { (length column.now ≤ max_chunk_elements) × (cardinality ≡ cardinality_of column.now) }
-    ensures { result ≡ stats_of column.now }
+pub(crate) fn stats_of(column: Column<'_>, cardinality: Cardinality) -> IntegerStats
+    requires { cardinality ≡ cardinality_of column.values.now }
+    ensures { result ≡ stats_of column.entry.values.now }
 {
-    if column.len() == 0 {
+    if column.values.is_empty() {
         return IntegerStats::default();
     }
     let pass = walk(column);
     let values = pass.values;
     let steps = pass.steps;
     IntegerStats {
-        count: column.len(),
-        first: column[0],
+        count: column.values.len(),
+        first: column.values[0],
         min: values.low,
         max: values.high,
         run_count: pass.run_count,

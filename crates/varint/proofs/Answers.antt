@@ -3,10 +3,8 @@
 use Rattle.std.proofs.Common.{◌≡◌, ℕ, zero, suc, ◌+◌, ◌<◌, ◌≤◌, Bool, true, false, cond, ltb, List, [], ◌∷◌, length, drop, refl, arith, length-drop}
 use Rattle.format.specs.Outcome.{Outcome, refused, ok, ◌>>=◌}
 use Rattle.format.specs.Keys.{zigzag, unzigzag}
-use Rattle.format.specs.Varint.{uvarint_end, uvarint_value, ends_unpadded, read_uvarint}
-use Rattle.format.specs.declared.Uvarint.{Uvarint}
-use Rattle.format.specs.Standalone.{read_varint}
-use Rattle.format.specs.declared.Varint.{Varint}
+use Rattle.format.specs.Varint.{Uvarint, uvarint_end, uvarint_value, ends_unpadded, read_uvarint}
+use Rattle.format.specs.Standalone.{Varint, read_varint}
 use Rattle.number.proofs.ZigZag.{zigzag-unzigzag}
 
 -- ---- what reading finds, by what a signed reading finds

@@ -1,19 +1,20 @@
 -- What `read_word` finds in the eight bytes x of s from `at` on: the place of the varint's last byte and its value, or, where none of the eight is the last, the
 -- state after them. x is the number of those bytes, so masks and shifts of x are parts of their list.
-use Rattle.std.proofs.Common.{◌≡◌, ℕ, zero, suc, ◌+◌, ◌-◌, ◌*◌, ◌/◌, ◌%◌, ◌^◌, ◌<◌, ◌≤◌, not, eqb, ◌⊎◌, List, [], ◌∷◌, map, length, get_or, take, drop, sym, ap, ◌∙◌, ap₂, inl, inr, le_refl, lt_of_lt_of_le, add-zero, mod-eq_of_lt, zero-lt-suc, mul_comm, suc-add, one-mul, pow-suc, zero-add, zero-mul, arith, length-drop, take-append-drop, length-take-le, get_or-drop, get_or-take, take-take, drop-drop, pow_pos, pow_mono}
+use Rattle.std.proofs.Common.{◌≡◌, ℕ, suc, ◌+◌, ◌-◌, ◌*◌, ◌/◌, ◌%◌, ◌^◌, ◌<◌, ◌≤◌, not, eqb, ◌⊎◌, List, ◌∷◌, map, length, get_or, take, drop, sym, ap, ◌∙◌, ap₂, inl, inr, le_refl, lt_of_lt_of_le, add-zero, mod-eq_of_lt, zero-lt-suc, mul_comm, one-mul, pow-suc, zero-add, zero-mul, arith, length-drop, take-append-drop, length-take-le, get_or-drop, get_or-take, take-take, drop-drop, pow_pos, pow_mono}
 use lib.Bits.{and_le_r, bit_and, bit_xor, and_mask, xor_block, xor_self, xor_shifted}
 use lib.Count.{count_trailing_zeros}
 use lib.ListN.{length-map}
 use lib.Pow.{ones_lt}
-use lib.Seq.{slice, take-nil, slice-cons, slice_empty}
+use lib.Seq.{slice-cons, slice_empty}
 use Rattle.format.specs.Digits.{of_digits}
 use Rattle.format.specs.Varint.{uvarint_value, read_uvarint}
 use Rattle.format.proofs.Numbers.All.{all_take, all_drop, Below}
 use Rattle.format.proofs.Numbers.Digits.{of_digits-lt, below-map}
 use Rattle.format.proofs.Numbers.Places.{pow-256, of_digits-take, of_digits-drop}
+use Rattle.format.proofs.Numbers.Uvarints.{slice-drop}
 use Rattle.format.proofs.Numbers.Widths.{pow-128}
 use Rattle.varint.specs.Reading.{Reading, groups8}
-use Rattle.varint.proofs.Reading.{was_read, answer-more}
+use Rattle.varint.proofs.Reading.{was_read, answer_more}
 use Rattle.varint.proofs.Pairs.{groups_of}
 use Rattle.varint.proofs.Stops.{Stop, Continued, stops, stop-inside, stop-after, walk-stop, walk-on, tops, marks, marked, marks-none, marks-some, marks-zeros, marks-lowest}
 
@@ -35,11 +36,6 @@ low-bytes x M n f {e} h g =
     ∙ simp (zero-mul, zero-add) in
     let all : suc (n * 8 + 7) ≡ suc n * 8 = omega arith in
     ap (bit_and x) mask ∙ and_mask x (suc k) ∙ ap (λ (i : ℕ). x % 2 ^ i) all ∙ ap (λ (i : ℕ). x % i) (sym (pow-256 (suc n)))
-
-slice-take : (at k : ℕ) (s : List ℕ) → slice at (at + k) s ≡ take k (drop at s)
-slice-take zero k s = rw (zero-add k)
-slice-take (suc at) k [] = simp take-nil
-slice-take (suc at) k (b ∷ s) = rw (suc-add at k) (slice-take at k s)
 
 -- ---- the bytes
 
@@ -67,7 +63,7 @@ module _ {s : List ℕ} (at : ℕ) (below : Below 256 s) where
       let few : k * 7 ≤ 64 = omega arith in
       groups_of 8 (all_take k (all_drop at below)) (omega arith)
       ∙ sym (mod-eq_of_lt (lt_of_lt_of_le (rw (pow-128 k) at small) (pow_mono few)))
-      ∙ ap (λ (t : List ℕ). of_digits 128 (map (λ b. b % 128) t) % 2 ^ 64) (sym (slice-take at k s))
+      ∙ ap (λ (t : List ℕ). of_digits 128 (map (λ b. b % 128) t) % 2 ^ 64) (sym (slice-drop at k s))
 
   -- the byte at n, above the n before it
   last_byte : (n : ℕ) → at + n < length s → of_digits 256 (take (suc n) (drop at s)) / 2 ^ (8 * n) ≡ get_or s (at + n) 0
@@ -117,8 +113,8 @@ module _ {s : List ℕ} (at : ℕ) (below : Below 256 s) where
         go (inr r) = absurd (marks-some r.1 (sym ends_is ∙ z))
 
     -- one is, and the zeros tell which
-    pub word-stop : (ends x ≡ 0 → ⊥) → Stop (eight_from s at) (count_trailing_zeros 64 (ends x) / 8)
-    word-stop z = go (stops (eight_from s at))
+    pub word_stop : (ends x ≡ 0 → ⊥) → Stop (eight_from s at) (count_trailing_zeros 64 (ends x) / 8)
+    word_stop z = go (stops (eight_from s at))
       where
         go : Continued (eight_from s at) ⊎ ((n : ℕ) × Stop (eight_from s at) n) → Stop (eight_from s at) (count_trailing_zeros 64 (ends x) / 8)
         go (inl r) = absurd (z (ends_is ∙ marks-none r))
@@ -144,12 +140,12 @@ module _ {s : List ℕ} (at : ℕ) (below : Below 256 s) where
           ∙ sym (of_digits-take (suc n) bytes (rw eight h))
           ∙ ap (of_digits 256) (take-take (suc n) 8 (drop at s) h)
 
-      pub word-answer : 128 ≤ get_or s at 0 → let y = bit_and x (bit_xor (ends x) (below_ends x)) in
+      pub word_answer : 128 ≤ get_or s at 0 → let y = bit_and x (bit_xor (ends x) (below_ends x)) in
           was_read (groups8 y) (at + n + 1) (not (eqb (y / 2 ^ (8 * n)) 0)) ≡ read_uvarint s at
-      word-answer first =
+      word_answer first =
           let h : n < 8 = word-place in
           let p : 0 < n = stop-after r (rw (get_or-take 8 (drop at s) 0 0 (zero-lt-suc 7), get_or-drop at s 0 0, add-zero at) first) in
           let v : groups8 (of_digits 256 (take (suc n) (drop at s))) ≡ uvarint_value s at (at + n + 1)
           = value-word (suc n) h (omega arith) ∙ ap (uvarint_value s at) (omega arith) in
           rw (low-is, v, last_byte n (omega arith))
-          (answer-more s at (at + n) (omega arith) (rw (eight, take-append-drop 8 (drop at s)) at (walk-stop at 2 (drop 8 (drop at s)) at r)))
+          (answer_more s at (at + n) (omega arith) (rw (eight, take-append-drop 8 (drop at s)) at (walk-stop at 2 (drop 8 (drop at s)) at r)))

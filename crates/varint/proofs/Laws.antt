@@ -7,14 +7,13 @@ use lib.Seq.{slice, length-slice}
 use Rattle.format.specs.Outcome.{ok}
 use Rattle.format.specs.Keys.{Key, zigzag, unzigzag}
 use Rattle.format.specs.Answers.{stored}
-use Rattle.format.specs.Varint.{uvarint_len, uvarint_bytes, varint_len, varint_bytes, uvarint_value, read_uvarint}
-use Rattle.format.specs.declared.Uvarint.{Uvarint}
+use Rattle.format.specs.Varint.{Uvarint, uvarint_len, uvarint_bytes, varint_len, varint_bytes, uvarint_value, read_uvarint}
 use Rattle.format.specs.Standalone.{read_varint, uvarint_write_outcome, uvarint_write_output, varint_write_output}
 use Rattle.format.proofs.Numbers.Digits.{of_digits-lt, below-map}
 use Rattle.format.proofs.Numbers.Keys.{unzigzag-zigzag, zigzag-lt}
 use Rattle.format.proofs.Numbers.Occurs.{occurs-middle}
 use Rattle.format.proofs.Numbers.Uvarints.{length-uvarint_bytes, read_uvarint-back}
-use Rattle.format.proofs.Numbers.Widths.{uvarint_len-least}
+use Rattle.format.proofs.Numbers.Widths.{uvarint_len_least}
 use Rattle.number.proofs.ZigZag.{zigzag-unzigzag}
 use Rattle.varint.proofs.Answers.{read-range}
 use Rattle.varint.proofs.Reading.{was_read}
@@ -66,7 +65,7 @@ value-lt s at next h =
 pub written-shortest : (s : List ℕ) (at : ℕ) (v : Uvarint) → read_uvarint s at ≡ ok v → uvarint_len v.value ≤ v.next - at
 written-shortest s at v e =
     let r = read-range s at v e in
-    uvarint_len-least v.value (v.next - at) (omega (arith, r.0)) (rw r.2 (value-lt s at v.next r.1))
+    uvarint_len_least v.value (v.next - at) (omega (arith, r.0)) (rw r.2 (value-lt s at v.next r.1))
 
 -- nor has a signed varint fewer than the key that it is read as
 pub signed-shortest : (s : List ℕ) (at : ℕ) (v : Uvarint) → read_uvarint s at ≡ ok v → varint_len (unzigzag v.value) ≤ v.next - at

@@ -1,13 +1,12 @@
 -- Reading a varint byte by byte, as `read_uvarint` and the loop of `read_long` do: the walk to the end goes on from the next place, and the value so far is
 -- that of the bytes passed. `Reading`, of specs/, is the loop's invariant; the other laws give it at the start, keep it for a turn, and give the answer at each exit.
-use Rattle.std.proofs.Common.{◌≡◌, ℕ, suc, ◌+◌, ◌-◌, ◌*◌, ◌%◌, ◌^◌, ◌<◌, ◌≤◌, Bool, true, not, eqb, List, [], ◌∷◌, ◌++◌, map, length, get_or, take, drop, sym, refl, ap, ◌∙◌, le_refl, mul_comm, add-one, arith, drop_of_length-le, length-take-le, drop-cons, take-suc, le-ltb, lt-ltb, eq-eqb, ne_eqb}
+use Rattle.std.proofs.Common.{◌≡◌, ℕ, suc, ◌+◌, ◌-◌, ◌*◌, ◌%◌, ◌^◌, ◌<◌, ◌≤◌, Bool, true, not, eqb, List, [], ◌∷◌, ◌++◌, map, length, get_or, take, drop, sym, refl, ap, ◌∙◌, le_refl, mul_comm, add-one, arith, drop_of_length-le, length-take-le, get_or-take, get_or-drop, drop-cons, take-suc, le-ltb, lt-ltb, eq-eqb, ne_eqb}
 use mathlib.Core.List.{map-append}
 use lib.ListN.{length-map}
 use lib.Seq.{slice, slice_empty, length-slice, drop-append-le}
 use Rattle.format.specs.Outcome.{Outcome, refused, ok, ◌>>=◌}
 use Rattle.format.specs.Digits.{of_digits}
-use Rattle.format.specs.Varint.{uvarint_end, uvarint_value, ends_unpadded, read_uvarint}
-use Rattle.format.specs.declared.Uvarint.{Uvarint}
+use Rattle.format.specs.Varint.{Uvarint, uvarint_end, uvarint_value, ends_unpadded, read_uvarint}
 use Rattle.format.proofs.Numbers.Digits.{of_digits-append}
 use Rattle.format.proofs.Numbers.Widths.{pow-128}
 use Rattle.varint.specs.Reading.{Reading}
@@ -77,26 +76,30 @@ unfolding read_uvarint
 answer s at e = sym (ap (found s at) e)
 
 -- no byte
-pub answer-none : (s : List ℕ) (at : ℕ) → length s ≤ at → refused 6 at ≡ read_uvarint s at
-answer-none s at h = answer s at (end_none s at at 10 h)
+pub answer_none : (s : List ℕ) (at : ℕ) → length s ≤ at → refused 6 at ≡ read_uvarint s at
+answer_none s at h = answer s at (end_none s at at 10 h)
 
 -- one byte
-pub answer-one : (s : List ℕ) (at : ℕ) → at < length s → get_or s at 0 < 128 → was_read (get_or s at 0) (at + 1) true ≡ read_uvarint s at
+pub answer_one : (s : List ℕ) (at : ℕ) → at < length s → get_or s at 0 < 128 → was_read (get_or s at 0) (at + 1) true ≡ read_uvarint s at
 unfolding ends_unpadded
-answer-one s at h b =
+answer_one s at h b =
     let v : get_or s at 0 ≡ uvarint_value s at (at + 1) = omega (arith, value-first s at h) in
     rw v (rw (eq-eqb (at + 1) (at + 1) refl) at (answer s at (end-last s at at 9 h b)))
 
 -- the last byte is at pos, and not the first
-pub answer-more : (s : List ℕ) (at pos : ℕ) → at < pos → uvarint_end at 10 (drop at s) at ≡ ok (pos + 1)
+pub answer_more : (s : List ℕ) (at pos : ℕ) → at < pos → uvarint_end at 10 (drop at s) at ≡ ok (pos + 1)
     → was_read (uvarint_value s at (pos + 1)) (pos + 1) (not (eqb (get_or s pos 0) 0)) ≡ read_uvarint s at
 unfolding ends_unpadded
-answer-more s at pos h e =
+answer_more s at pos h e =
     let n : pos + 1 ≡ at + 1 → ⊥ = λ p. omega arith in
     let k : pos + 1 - 1 ≡ pos = omega arith in
     rw (ne_eqb (pos + 1) (at + 1) n, k) at (answer s at e)
 
 -- ---- the loop, after one byte or more
+
+-- a byte of a part of the bytes
+pub byte_of : (s : List ℕ) (from long k : ℕ) → k < long → get_or (take long (drop from s)) k 0 ≡ get_or s (from + k) 0
+byte_of s from long k h = get_or-take long (drop from s) k 0 h ∙ get_or-drop from s k 0
 
 pub begin : (s : List ℕ) (at : ℕ) → at < length s → 128 ≤ get_or s at 0 → Reading s at (get_or s at 0 % 128) (at + 1) 7
 begin s at h b =
@@ -132,24 +135,24 @@ module _ {s : List ℕ} {at value pos shift : ℕ} (r : Reading s at value pos s
       }
 
   -- it is the last
-  pub answer-last : pos < at + 10 → pos < length s → get_or s pos 0 < 128
+  pub answer_last : pos < at + 10 → pos < length s → get_or s pos 0 < 128
       → was_read (summed value (get_or s pos 0 % 128) shift) (pos + 1) (not (eqb (get_or s pos 0) 0)) ≡ read_uvarint s at
-  answer-last l h b = rw (summed-is h) (answer-more s at pos r.begun (walk-next l ∙ end-last s at pos (r.left - 1) h b))
+  answer_last l h b = rw (summed-is h) (answer_more s at pos r.begun (walk-next l ∙ end-last s at pos (r.left - 1) h b))
 
   -- the bytes end
-  pub answer-cut : length s ≤ pos → refused 6 at ≡ read_uvarint s at
-  answer-cut h = answer s at (r.walk ∙ end_none s at pos r.left h)
+  pub answer_cut : length s ≤ pos → refused 6 at ≡ read_uvarint s at
+  answer_cut h = answer s at (r.walk ∙ end_none s at pos r.left h)
 
   -- ten bytes were read, and none was the last
-  pub answer-long : at + 10 ≤ pos → pos < length s → refused 7 at ≡ read_uvarint s at
-  answer-long l h =
+  pub answer_long : at + 10 ≤ pos → pos < length s → refused 7 at ≡ read_uvarint s at
+  answer_long l h =
       let z : r.left ≡ 0 = omega (arith, r.places) in
       answer s at ((rw z at r.walk) ∙ end-eleventh s at pos h)
 
 -- a second byte that is the last
-pub answer-two : (s : List ℕ) (at : ℕ) → at + 1 < length s → 128 ≤ get_or s at 0 → get_or s (at + 1) 0 < 128
+pub answer_two : (s : List ℕ) (at : ℕ) → at + 1 < length s → 128 ≤ get_or s at 0 → get_or s (at + 1) 0 < 128
     → was_read (get_or s at 0 % 128 + get_or s (at + 1) 0 * 128) (at + 2) (not (eqb (get_or s (at + 1) 0) 0)) ≡ read_uvarint s at
-answer-two s at h b c =
+answer_two s at h b c =
     let v : get_or s at 0 % 128 + get_or s (at + 1) 0 * 128 ≡ summed (get_or s at 0 % 128) (get_or s (at + 1) 0 % 128) 7 = omega arith in
     let n : at + 2 ≡ at + 1 + 1 = omega arith in
-    rw (v, n) (answer-last (begin s at (omega arith) b) (omega arith) h c)
+    rw (v, n) (answer_last (begin s at (omega arith) b) (omega arith) h c)

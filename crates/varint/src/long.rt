@@ -18,13 +18,12 @@ fn read_long(bytes: &[u8], at: usize, low: u64, from: usize, bits: u32) -> Resul
     let end = at + (bytes.len() - at).min(10);
     let mut value = low;
     let mut shift = bits;
-    for pos in from..end {
-        let b = bytes[pos];
+    for (k, &b) in bytes[from..end].iter().enumerate() {
         value = value.wrapping_add(group(b) << shift);
         if b < 128 {
             return Ok(Uvarint {
                 value,
-                next: pos + 1,
+                next: from + k + 1,
                 unpadded: b != 0,
             });
         }
@@ -59,6 +58,7 @@ fn read_word(bytes: &[u8], at: usize) -> Result<Uvarint, Refusal>
 
 // The same of any bytes: from one load of eight, and byte by byte near the end. It has two callers, so the compiler keeps it a
 // function, and these stay short.
+#[tactic(auto, using(crate::proofs::Reading::begin))]
 pub(crate) fn read_rest(bytes: &[u8], at: usize) -> Result<Uvarint, Refusal>
     requires { (at < length bytes.now) × (128 ≤ slice_index bytes.now at) }
     ensures { outcome_of result ≡ read_uvarint bytes.now at }

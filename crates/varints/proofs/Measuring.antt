@@ -1,5 +1,4 @@
--- How long a body is: at most ten bytes a value, at most the length of the longest varint a value, and counted byte by byte. A number with every bit of some numbers is
--- no less than any of them; a varint has a byte after its k-th if its number has a bit after the first 7 * k.
+-- How long a body is: at most ten bytes a value, at most the length of the longest varint a value, and counted byte by byte. A varint has a byte after its k-th if its number has a bit after the first 7 * k.
 use mathlib.Core.Path.{◌≡◌, refl}
 use mathlib.Core.List.{List, [], ◌∷◌}
 use Prim.Native.Nat.{ℕ, ◌+◌, ◌*◌, ◌/◌, ◌^◌, ◌≤◌, ◌<◌, min}
@@ -7,28 +6,18 @@ use native.Mathlib.Nat.{zero-lt-suc, suc-mul, mul_comm, div-eq_of_lt, le-div_iff
 use native.Mathlib.Numerals.{add-one}
 use native.Mathlib.Decide.{dec_lt}
 use native.Mathlib.Omega.{arith}
-use lib.Bits.{bit_or, and_le_l, and_le_r, or_add_and}
 use lib.IntN.{ℤ, pos}
 use lib.ListN.{length, get_or, drop, drop_of_length-le, length-append}
 use lib.Seq.{drop-cons}
 use Rattle.format.specs.Encodings.{max_chunk_elements}
-use Rattle.format.specs.Header.{header_len}
 use Rattle.format.specs.Keys.{zigzag}
 use Rattle.format.specs.Varint.{uvarint_len, varint_len}
 use Rattle.format.specs.VarintBody.{varint_body}
 use Rattle.format.proofs.Numbers.All.{All, all_none, all_more, all-by}
 use Rattle.format.proofs.Numbers.Keys.{length-varint_bytes, varint_len-le}
 use Rattle.format.proofs.Numbers.Places.{pow-pow}
-use Rattle.format.proofs.Numbers.Widths.{uvarint_len-pos, uvarint_len-le, uvarint_len-lt, uvarint_len-least, uvarint_len-mono}
+use Rattle.format.proofs.Numbers.Widths.{uvarint_len-pos, uvarint_len_le, uvarint_len-lt, uvarint_len_least, uvarint_len-mono}
 use Rattle.varints.specs.Lengths.{longer, capped, Within}
-
--- ---- every bit
-
-pub or_left : (a b : ℕ) → a ≤ bit_or a b
-or_left a b = omega (arith, or_add_and a b, and_le_r a b)
-
-pub or_right : (a b : ℕ) → b ≤ bit_or a b
-or_right a b = omega (arith, or_add_and a b, and_le_l a b)
 
 -- ---- at most
 
@@ -48,18 +37,13 @@ body_longest column bits b w = rw (mul_comm (uvarint_len bits) (length column)) 
 
 -- which is ten at most
 pub longest_most : (bits count : ℕ) → count ≤ max_chunk_elements → uvarint_len bits * count ≤ 10 * max_chunk_elements
-longest_most bits count few = mul-le-mul (uvarint_len-le bits) few
-
--- a header has twelve bytes at most
-pub header_most : (count : ℕ) → header_len count ≤ 12
-unfolding header_len
-header_most count = omega (arith, uvarint_len-le count)
+longest_most bits count few = mul-le-mul (uvarint_len_le bits) few
 
 -- ---- byte by byte
 
 -- a varint has one byte at least and ten at most
 pub longest : (bits : ℕ) → (1 ≤ uvarint_len bits) × (uvarint_len bits ≤ 10)
-longest bits = (uvarint_len-pos bits, uvarint_len-le bits)
+longest bits = (uvarint_len-pos bits, uvarint_len_le bits)
 
 module _ (shift : ℕ) (column : List ℤ) (i : ℕ) where
   pub longer_end : length column ≤ i → longer shift (drop i column) ≡ 0
@@ -79,7 +63,7 @@ byte_more x k b some = rw (mul_comm 7 k, ← pow-pow 2 7 k) (go (dec_lt x (128 ^
     more h (no m) = let short : uvarint_len x ≤ k = omega arith in absurd (omega (arith, uvarint_len-lt x b, pow-le-pow_right {n = 128} (zero-lt-suc 127) short))
 
     go : Dec (x < 128 ^ k) → min (uvarint_len x) (k + 1) ≡ min (uvarint_len x) k + min (x / 128 ^ k) 1
-    go (yes h) = rw (div-eq_of_lt h) (omega (arith, uvarint_len-least x k some h))
+    go (yes h) = rw (div-eq_of_lt h) (omega (arith, uvarint_len_least x k some h))
     go (no h) =
         let long : 128 ^ k ≤ x = omega arith in
         let one : 1 * 128 ^ k ≤ x = omega arith in

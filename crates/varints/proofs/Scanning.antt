@@ -31,6 +31,15 @@ module _ (bytes : List ℕ) (i : ℕ) where
   unfolding lasts
   lasts_more h = rw (add-one i, drop-cons bytes i 0)
 
+-- ---- the loop over ten bytes in a row
+
+-- the least of a window is that of the ten bytes from k on
+pub least_window : (w s : List ℕ) (k : ℕ) → ((j d : ℕ) → j < 10 → get_or w j d ≡ get_or s (k + j) d) → least10 w 0 ≡ least10 s k
+unfolding least10 least5
+least_window w s k e =
+    let z = rw (add-zero k) at (e 0 0 (omega arith)) in
+    rw (z, e 1 0 (omega arith), e 2 0 (omega arith), e 3 0 (omega arith), e 4 0 (omega arith), e 5 0 (omega arith), e 6 0 (omega arith), e 7 0 (omega arith), e 8 0 (omega arith), e 9 0 (omega arith), add_assoc k 5 1, add_assoc k 5 2, add_assoc k 5 3, add_assoc k 5 4) refl
+
 -- ---- a byte that ends a varint
 
 -- one of the first n bytes

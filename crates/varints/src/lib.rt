@@ -1,4 +1,4 @@
-// 2. Varint: one signed varint each (the Rust's `VarintCodec`).
+// Encoding 2, Varint: one signed varint each (the Rust's `VarintCodec`).
 #![tactic(auto)]
 
 ghost use Rattle.std.specs.Prelude.{refl};
@@ -6,8 +6,8 @@ ghost use Rattle.format.specs.declared.encoding.Encoding.TheVariants as Encoding
 
 use crate::scan::readable;
 use codec::body::settle_uvarints;
-use codec::chunk::{Codec, Encoder};
-use format::{Encoding, Extent, Header, Refusal};
+use codec::chunk::{Body, Codec, Encoder};
+use format::{Column, Encoding, Extent, Header, Refusal};
 use keys::fill_keys;
 use places::put_varint;
 
@@ -23,18 +23,17 @@ impl Codec for Varint {
 
     // Strict reading alone looks at where a body that passes ends, and at padding: for another the varints are asked one after
     // the other only where the scan cannot tell that all are readable.
-    fn settle_body(chunk: &[u8], strict: bool, header: Header) -> Result<Extent, Refusal> {
-        if !strict && readable(chunk, header.start, header.count) {
-            return Ok(Extent {
-                end: header.start,
-                padded: header.padded,
-            });
+    fn settle_body(body: Body<'_>, strict: bool) -> Result<Extent, Refusal> {
+        let before = body.before();
+        if !strict && readable(body) {
+            return Ok(before);
         }
-        settle_uvarints(chunk, header.start, header.count, header.padded)
+        settle_uvarints(body.chunk, before, body.header.count)
     }
 
-    fn fill(chunk: &[u8], header: Header, column: &mut [i64]) {
-        fill_keys(chunk, header.start, header.count, false, column)
+    fn fill(body: Body<'_>, column: &mut [i64]) {
+        let Header { count, start, .. } = body.header;
+        fill_keys(body.chunk, start, count, false, column)
     }
 }
 
@@ -45,17 +44,17 @@ impl Encoder for Varint {
 
     ghost scratchless = { λ k. refl };
 
-    fn measure(column: &[i64]) {}
+    fn measure(column: Column<'_>) {}
 
     #[tactic(auto, unfolding(format::specs::Chunk::body_of))]
-    fn lacking(column: &[i64], measured: (), space: usize) -> Option<usize> {
+    fn lacking(column: Column<'_>, measured: (), space: usize) -> Option<usize> {
         lengths::lacking(column, space)
     }
 
-    fn store(column: &[i64], measured: (), out: &mut [u8], at: usize) -> usize {
+    fn store(column: Column<'_>, measured: (), out: &mut [u8], at: usize) -> usize {
         let mut next = at;
-        for &value in column {
-            next = put_varint(value, out, next);
+        for &value in column.values {
+            next = put_varint(value, out, next).unwrap();
         }
         next
     }

@@ -25,8 +25,8 @@ use Rattle.format.specs.Outcome.{Outcome, refused, ok}
 use Rattle.format.specs.Keys.{residue}
 use Rattle.format.specs.Header.{unnamed, named}
 use Rattle.format.specs.Read.{read_answer}
-use Rattle.format.specs.declared.Uvarint.{Uvarint}
-use Rattle.format.specs.declared.Varint.{Varint}
+use Rattle.format.specs.Varint.{Uvarint}
+use Rattle.format.specs.Standalone.{Varint}
 
 -- the eight readings of a chunk
 unfoldable pub readings : List ℕ → ℕ → List (Outcome ℕ)

@@ -2,7 +2,6 @@
 -- counts. Words, varints and packed numbers are read by the count; the lengths of runs sum to the count by questions 15 and 16; and the delta blocks, whose
 -- size is at least 1 by question 19, hold one delta for each value after the first.
 use mathlib.Core.Path.{◌≡◌, refl, sym, ap}
-use mathlib.Core.Bool.{Bool, true, false, ◌&&◌}
 use mathlib.Core.List.{List, [], ◌∷◌}
 use Prim.Native.Nat.{ℕ, zero, suc, ◌+◌, ◌-◌, ◌*◌, ◌^◌, ◌≤◌, min}
 use native.Mathlib.Nat.{suc-mul, zero-mul, div-add-mod', mod-lt}
@@ -14,9 +13,8 @@ use lib.ListN.{length, drop, length-append, length-map, length-replicate}
 use Rattle.format.specs.Outcome.{ok, check}
 use Rattle.format.specs.Digits.{of_digits}
 use Rattle.format.specs.Keys.{wrapping_add}
-use Rattle.format.specs.declared.Uvarint.{Uvarint}
 use Rattle.format.specs.declared.Extent.{Extent}
-use Rattle.format.specs.Varint.{read_uvarint, uvarint_at, uvarint_values}
+use Rattle.format.specs.Varint.{Uvarint, read_uvarint, uvarint_at, uvarint_values}
 use Rattle.format.specs.Packing.{unpacked, packed_values}
 use Rattle.format.specs.Plain.{plain_values}
 use Rattle.format.specs.VarintBody.{varint_body_values}
@@ -34,6 +32,7 @@ use Rattle.format.specs.declared.encoding.Encoding.TheVariants.{Plain, Varint, B
 use Rattle.format.proofs.Numbers.Digits.{length_digits}
 use Rattle.format.proofs.Codecs.Outcome.{both-passed, check-passed}
 use Rattle.std.specs.Prelude.{Option}
+use Rattle.std.proofs.lemmas.Bool.{and_parts}
 
 -- ---- numbers read in a row
 
@@ -111,11 +110,6 @@ pub block_count-enough : (size n : ℕ) → 1 ≤ size → n ≤ block_count siz
 unfolding block_count
 block_count-enough size n h = omega (arith, div-add-mod' (n + (size - 1)) size, mod-lt (n + (size - 1)) h)
 
--- where two tests hold, the first does
-and_left : (t u : Bool) → (t && u) ≡ true → t ≡ true
-and_left true u h = refl
-and_left false u h = h
-
 -- a DeltaBinaryPacked body that was read gives as many values as are counted
 pub delta-count :
     (s : List ℕ) (start count : ℕ) (padded : Option ℕ) {e : Extent} → validate_delta s start count padded ≡ ok e
@@ -126,7 +120,7 @@ delta-count s start (suc left) padded h =
     both-passed (read_uvarint s start) _ h λ first f h₁.
     both-passed (read_uvarint s first.next) _ h₁ λ size z h₂.
     both-passed (check (within 1 (2 ^ 20) size.value) 19 size.next) _ h₂ λ _ one h₃.
-    let some : 1 ≤ size.value = leb-true 1 size.value (and_left (leb 1 size.value) _ (check-passed _ 19 _ one)) in
+    let some : 1 ≤ size.value = leb-true 1 size.value (and_parts (leb 1 size.value) _ (check-passed _ 19 _ one)).0 in
     rw (uvarint-again s start f, uvarint-again s first.next z, length-prefix_sums)
     (ap suc (length-block_deltas s size.value size.next _ left (block_count-enough size.value left some)))
 

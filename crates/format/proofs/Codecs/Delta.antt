@@ -11,8 +11,7 @@ use lib.ListN.{length, get_or, take, drop, length-append, length-map, length-tak
 use lib.Seq.{take-add, take_all}
 use Rattle.format.specs.Outcome.{ok}
 use Rattle.format.specs.Keys.{gap, wrapping_add, zigzag, unzigzag, Key}
-use Rattle.format.specs.declared.Uvarint.{Uvarint}
-use Rattle.format.specs.Varint.{uvarint_bytes, varint_bytes, read_uvarint, uvarint_at}
+use Rattle.format.specs.Varint.{Uvarint, uvarint_bytes, varint_bytes, read_uvarint, uvarint_at}
 use Rattle.format.specs.Width.{width}
 use Rattle.format.specs.Packing.{packed_len, width_at, packed_end, packed_values}
 use Rattle.format.specs.Folds.{least, largest, deltas, deltas_from}

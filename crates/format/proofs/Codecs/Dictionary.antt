@@ -11,8 +11,7 @@ use lib.ListN.{length, get_or, length-append, length-map}
 use borrow.Author.Tests.{lt-ltb, le-leb}
 use Rattle.format.specs.Outcome.{ok}
 use Rattle.format.specs.Keys.{Key, gap, zigzag}
-use Rattle.format.specs.declared.Uvarint.{Uvarint}
-use Rattle.format.specs.Varint.{uvarint_bytes, varint_bytes, validate_uvarints, uvarint_values, after_uvarints}
+use Rattle.format.specs.Varint.{Uvarint, uvarint_bytes, varint_bytes, validate_uvarints, uvarint_values, after_uvarints}
 use Rattle.format.specs.Packing.{packed_len, packed, packed_end, packed_values}
 use Rattle.format.specs.Encodings.{max_chunk_elements}
 use Rattle.format.specs.Dictionary.{gap_bytes, entry_bytes, code_of, code_width, dictionary_body_with, dictionary_body, all_below, validate_dictionary, entries_from, entries_of, dictionary_values}

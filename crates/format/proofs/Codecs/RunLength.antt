@@ -12,8 +12,7 @@ use borrow.Author.Tests.{le-leb}
 use Rattle.format.specs.Outcome.{ok}
 use Rattle.format.specs.Encodings.{max_chunk_elements}
 use Rattle.format.specs.Keys.{eq_z, zigzag, unzigzag, Key}
-use Rattle.format.specs.declared.Uvarint.{Uvarint}
-use Rattle.format.specs.Varint.{uvarint_bytes, varint_bytes, uvarint_at}
+use Rattle.format.specs.Varint.{Uvarint, uvarint_bytes, varint_bytes, uvarint_at}
 use Rattle.format.specs.Runs.{Run, runs, runs_from, run_bytes, run_body, validate_runs, validate_run_length, run_values, run_length_values}
 use Rattle.format.proofs.Numbers.UvarintRows.{first_padded-unpadded}
 use Rattle.format.proofs.Numbers.Keys.{unzigzag-zigzag, zigzag-lt}

@@ -24,7 +24,7 @@ use Rattle.format.specs.Statistics.{run_len}
 use Rattle.format.specs.Estimates.{gaps_len, entries_len, estimates_of, length_in, available_in}
 use Rattle.format.specs.declared.encoding.Encoding.{Encoding}
 use Rattle.format.specs.declared.encoding.Encoding.TheVariants.{Plain, Varint, BitPacked, FrameOfReference, RunLength, Dictionary, DeltaBinaryPacked}
-use Rattle.format.proofs.Numbers.Widths.{width-le, uvarint_len-pos, uvarint_len-le, uvarint_len-least}
+use Rattle.format.proofs.Numbers.Widths.{width-le, uvarint_len-pos, uvarint_len_le, uvarint_len_least}
 use Rattle.format.proofs.Numbers.Packing.{packed_len-most}
 use Rattle.format.proofs.Numbers.Distinct.{length-distinct}
 use Rattle.format.proofs.Codecs.RunLength.{length_runs}
@@ -37,7 +37,7 @@ use Rattle.format.proofs.Numbers.Keys.{varint_len-le}
 -- a run has at most 20
 pub run_len-le : (r : Run) → run_len r ≤ 20
 unfolding run_len
-run_len-le r = omega (arith, varint_len-le r.key, uvarint_len-le r.times)
+run_len-le r = omega (arith, varint_len-le r.key, uvarint_len_le r.times)
 
 -- a sum of numbers of at most c each
 total-most {ℓ} : {A : Type ℓ} (f : A → ℕ) (c : ℕ) (l : List A) → ((a : A) → f a ≤ c) → total (map f l) ≤ length l * c
@@ -57,7 +57,7 @@ total-run_len-most column = omega (arith, total-most run_len 20 (runs column) ru
 gaps_len-most : (last : ℤ) (es : List ℤ) → gaps_len last es ≤ 10 * length es
 unfolding gaps_len
 gaps_len-most last [] = omega arith
-gaps_len-most last (e ∷ es) = omega (arith, uvarint_len-le (gap last e), gaps_len-most e es)
+gaps_len-most last (e ∷ es) = omega (arith, uvarint_len_le (gap last e), gaps_len-most e es)
 
 -- and so have its entries
 pub entries_len-most : (es : List ℤ) → entries_len es ≤ 10 * length es
@@ -77,7 +77,7 @@ header_len-some n = omega (arith, uvarint_len-pos n)
 
 -- the varint of a count has at most 4 bytes,
 pub uvarint_len-count : (n : ℕ) → n ≤ max_chunk_elements → uvarint_len n ≤ 4
-uvarint_len-count n h = uvarint_len-least n 4 (omega arith) (omega arith)
+uvarint_len-count n h = uvarint_len_least n 4 (omega arith) (omega arith)
 
 -- so the header has at most 6
 pub header_len-most : (n : ℕ) → n ≤ max_chunk_elements → header_len n ≤ 6

@@ -20,7 +20,7 @@ use Rattle.format.specs.Varint.{varint_len, varint_bytes}
 use Rattle.format.proofs.Numbers.All.{Below}
 use Rattle.format.proofs.Numbers.Digits.{length_digits, of_digits-digits, below-digits}
 use Rattle.format.proofs.Numbers.Uvarints.{length-uvarint_bytes}
-use Rattle.format.proofs.Numbers.Widths.{uvarint_len-le}
+use Rattle.format.proofs.Numbers.Widths.{uvarint_len_le}
 
 -- ---- residues
 
@@ -163,4 +163,4 @@ length-varint_bytes v = length-uvarint_bytes (zigzag v)
 -- ten bytes at most
 pub varint_len-le : (v : ℤ) → varint_len v ≤ 10
 unfolding varint_len
-varint_len-le v = uvarint_len-le (zigzag v)
+varint_len-le v = uvarint_len_le (zigzag v)

@@ -17,6 +17,19 @@ use Rattle.format.proofs.Numbers.Keys.{residue-lt, residue-add, gap-lt, zigzag-l
 
 -- ---- the order
 
+-- a key is the lesser and the greater of itself
+chosen : (t : Bool) (v : ℤ) → cond t v v ≡ v
+chosen true v = refl
+chosen false v = refl
+
+pub lesser-same : (v : ℤ) → lesser v v ≡ v
+unfolding lesser
+lesser-same v = chosen (lt_z v v) v
+
+pub greater-same : (v : ℤ) → greater v v ≡ v
+unfolding greater
+greater-same v = chosen (lt_z v v) v
+
 -- a test as the order, and back
 pub le_z-le : (a b : ℤ) → le_z a b ≡ true → a ≤ℤ b
 le_z-le a b e = record { le = subst T (sym e) tt }

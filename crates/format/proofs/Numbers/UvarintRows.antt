@@ -8,8 +8,7 @@ use native.Mathlib.Nat.{add-zero, add_assoc}
 use native.Mathlib.Omega.{arith}
 use lib.ListN.{length, length-append}
 use Rattle.format.specs.Outcome.{ok}
-use Rattle.format.specs.Varint.{uvarint_bytes, first_padded, validate_uvarints, uvarint_values, after_uvarints}
-use Rattle.format.specs.declared.Uvarint.{Uvarint}
+use Rattle.format.specs.Varint.{Uvarint, uvarint_bytes, first_padded, validate_uvarints, uvarint_values, after_uvarints}
 use Rattle.format.proofs.Numbers.All.{all_none, all_more, Below}
 use Rattle.format.proofs.Numbers.Occurs.{Occurs, occurs-first, occurs-next}
 use Rattle.format.proofs.Numbers.Uvarints.{uvarint_bytes-some, read_uvarint-back, uvarint_at-back}

@@ -12,12 +12,11 @@ use lib.Seq.{slice, take-nil, get_or-drop, take_at}
 use borrow.Author.Tests.{lt-ltb, le-ltb, ne_eqb, eq-eqb}
 use Rattle.format.specs.Outcome.{Outcome, ok, ◌>>=◌, value_or}
 use Rattle.format.specs.Digits.{of_digits, digits}
-use Rattle.format.specs.Varint.{uvarint_len, continued, uvarint_bytes, uvarint_end, uvarint_value, ends_unpadded, read_uvarint, uvarint_at}
-use Rattle.format.specs.declared.Uvarint.{Uvarint}
+use Rattle.format.specs.Varint.{Uvarint, uvarint_len, continued, uvarint_bytes, uvarint_end, uvarint_value, ends_unpadded, read_uvarint, uvarint_at}
 use Rattle.format.proofs.Numbers.All.{all_none, all_more, Below}
 use Rattle.format.proofs.Numbers.Digits.{length_digits, below-digits, of_digits-digits}
 use Rattle.format.proofs.Numbers.Occurs.{Occurs}
-use Rattle.format.proofs.Numbers.Widths.{uvarint_len-pos, uvarint_len-le, uvarint_len-lt, uvarint_len-tight}
+use Rattle.format.proofs.Numbers.Widths.{uvarint_len-pos, uvarint_len_le, uvarint_len-lt, uvarint_len-tight}
 
 -- ---- what is written
 
@@ -79,7 +78,7 @@ last-continued (suc n) x rest =
     ∙ ap (λ (y : ℕ). y % 128) (div-div-eq-div-mul x 128 (128 ^ n) ∙ ap (λ (y : ℕ). x / y) (mul_comm 128 (128 ^ n) ∙ sym (pow-suc 128 n)))
 
 -- a part from a place on
-slice-drop : (at n : ℕ) (s : List ℕ) → slice at (at + n) s ≡ take n (drop at s)
+pub slice-drop : (at n : ℕ) (s : List ℕ) → slice at (at + n) s ≡ take n (drop at s)
 slice-drop zero n s = ap (λ (k : ℕ). take k s) (zero-add n)
 slice-drop (suc at) n [] = ap (λ (l : List ℕ). drop (suc at) l) (take-nil (suc at + n)) ∙ sym (take-nil n)
 slice-drop (suc at) n (x ∷ s) = ap (λ (k : ℕ). drop (suc at) (take k (x ∷ s))) (suc-add at n) ∙ slice-drop at n s
@@ -147,7 +146,7 @@ module _ {s : List ℕ} {at : ℕ} (x : ℕ) (h : x < 2 ^ 64) (o : Occurs s at (
       go : (l : ℕ) → uvarint_len x ≡ l → read_uvarint s at ≡ ok (uvarint_written at x)
       go zero d = absurd (omega (arith, uvarint_len-pos x))
       go (suc n) d =
-          let b : n < 10 = omega (arith, uvarint_len-le x) in
+          let b : n < 10 = omega (arith, uvarint_len_le x) in
           let k : x < 128 ^ suc n = rw d at (uvarint_len-lt x h) in
           let f : (m : ℕ) → n ≡ suc m → 128 ^ n ≤ x = λ m z. rw z (uvarint_len-tight x m (d ∙ ap suc z)) in
           let e : drop at s ≡ continued (digits 128 (suc n) x) ++ o.rest = rw d at o.here in

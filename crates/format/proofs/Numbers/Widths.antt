@@ -58,9 +58,9 @@ unfolding uvarint_len
 uvarint_len-pos x = omega arith
 
 -- ten bytes at most
-pub uvarint_len-le : (x : ℕ) → uvarint_len x ≤ 10
+pub uvarint_len_le : (x : ℕ) → uvarint_len x ≤ 10
 unfolding uvarint_len
-uvarint_len-le x = omega (arith, width-le x)
+uvarint_len_le x = omega (arith, width-le x)
 
 -- monotone, below 2^64
 pub uvarint_len-mono : (x y : ℕ) → x ≤ y → y < 2 ^ 64 → uvarint_len x ≤ uvarint_len y
@@ -76,9 +76,9 @@ uvarint_len-lt x h =
     rw (pow-128 n) (lt_of_lt_of_le (width-lt x h) (pow_mono e))
 
 -- no fewer do: the least length of one or more that holds x
-pub uvarint_len-least : (x n : ℕ) → 1 ≤ n → x < 128 ^ n → uvarint_len x ≤ n
+pub uvarint_len_least : (x n : ℕ) → 1 ≤ n → x < 128 ^ n → uvarint_len x ≤ n
 unfolding uvarint_len
-uvarint_len-least x n p h = let k : x < 2 ^ (n * 7) = rw (pow-128 n) at h in omega (arith, width-least x (n * 7) k)
+uvarint_len_least x n p h = let k : x < 2 ^ (n * 7) = rw (pow-128 n) at h in omega (arith, width-least x (n * 7) k)
 
 -- a number of n + 2 groups is not held by n + 1
 pub uvarint_len-tight : (x n : ℕ) → uvarint_len x ≡ suc (suc n) → 128 ^ suc n ≤ x
@@ -86,4 +86,4 @@ uvarint_len-tight x n e = go (dec_le (128 ^ suc n) x)
   where
     go : Dec (128 ^ suc n ≤ x) → 128 ^ suc n ≤ x
     go (yes k) = k
-    go (no k) = let h : x < 128 ^ suc n = lt_of_not-le k in absurd (omega (arith, uvarint_len-least x (suc n) (omega arith) h))
+    go (no k) = let h : x < 128 ^ suc n = lt_of_not-le k in absurd (omega (arith, uvarint_len_least x (suc n) (omega arith) h))

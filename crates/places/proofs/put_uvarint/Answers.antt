@@ -1,12 +1,12 @@
 -- One byte, two bytes, or any number of them by a call: where there is room, what is stored is the varint (`Placing`).
 use native.Mathlib.Omega.{arith}
 use lib.ListN.{length-set}
-use Rattle.places.proofs.Placing.{outside, uvarint-fits, one-stored, two-short, two-stored}
+use Rattle.places.proofs.Placing.{uvarint_none, one-stored, two-short, two-stored}
 use Rattle.places.proofs.put_uvarint.Goals as goal
 
 pub returns-then-out-at : goal.returns-then-out-at
 returns-then-out-at c = let a = c.args in
-    let both = outside a.at a.out.now _ c.if-out-at.true (uvarint-fits _ _) in
+    let both = uvarint_none a.value a.at a.out.now c.if-out-at.true in
     record { value = both.0; out_after = both.1 }
 
 pub returns-then-value-lt128 : goal.returns-then-value-lt128

@@ -45,7 +45,7 @@ pub returns : goal.returns
 returns c =
     let a = c.args in
     let ends = read_back _ _ _ _ (writing (goal.at.returns c).After-encode-written) a.back.now (ap outcome_of c.in-Ok-written.is) c.read_all.ensures a.naming a.strict
-    (c.then_some-name.ensures ∙ ap (then_some a.naming) c.id.ensures) (c.decode_either-read.ensures.value, c.decode_either-read.ensures.column_after) in
+    (c.then_some-name.ensures ∙ ap (then_some a.naming) (c.from.ensures ∙ c.id.ensures)) (c.decode_either-read.ensures.value, c.decode_either-read.ensures.column_after) in
     record { value = ends.trip-is; scratch_after = ends.scratch-is; out_after = ends.output-is; back_after = ends.buffer-is; claim = claimed c.read_all.ensures ends }
 
 pub slice_bounds-decode_either-end-2 : goal.slice_bounds-decode_either-end-2

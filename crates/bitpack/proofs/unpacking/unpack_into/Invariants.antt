@@ -1,7 +1,8 @@
--- The first loop fills k values, and the second goes on from there to n.
-use Prim.Native.Nat.{◌≤◌}
+-- The values from the k-th on are stored in what is left of the buffer.
+use Prim.Native.Nat.{◌*◌, ◌/◌, ◌^◌}
+use Rattle.format.specs.Digits.{of_digits}
 use Rattle.bitpack.proofs.Unpacker.{Filled}
 use Rattle.bitpack.proofs.unpacking.unpack_into.Given as goal
 
 abbrev pub invariant-loop-i : goal.invariant-loop-i
-invariant-loop-i l = (l.i ≤ l.n) × Filled l.w l.s l.initial.out l.out l.i
+invariant-loop-i l = Filled l.fn.width.bits (of_digits 256 l.s / 2 ^ (l.k * l.fn.width.bits)) l.initial.value-items l.value-items l.i

@@ -15,11 +15,11 @@ returns-then-w-eq0 c = rw c.if-w-eq0.true (sym (mod-one _))
 pub returns-then-off-w-le64 : goal.returns-then-off-w-le64
 returns-then-off-w-le64 c =
     let a = c.args in
-    low_bits (of_digits 256 a.s.now) a.bit a.w (word_part (a.bit / 8) (all-by a.s.now 0 λ i _. (c.type_inv.s i).fits) c.load_padded.ensures) c.requires.1 c.if-off-w-le64.true
+    low_bits (of_digits 256 a.s.now) a.bit a.width.bits (word_part (a.bit / 8) (all-by a.s.now 0 λ i _. (c.type_inv.s i).fits) c.load_padded.ensures) c.requires.0 c.if-off-w-le64.true
 
 pub returns : goal.returns
 returns c =
     let a = c.args in
-    nine-bytes (of_digits 256 a.s.now) a.bit a.w (word_part (a.bit / 8) (all-by a.s.now 0 λ i _. (c.type_inv.s i).fits) c.load_padded.ensures) c.requires.1
+    nine-bytes (of_digits 256 a.s.now) a.bit a.width.bits (word_part (a.bit / 8) (all-by a.s.now 0 λ i _. (c.type_inv.s i).fits) c.load_padded.ensures) c.requires.0
     (c.from.ensures ∙ c.byte_at.ensures ∙ sym (of_digits-at (a.bit / 8 + 8) (all-by a.s.now 0 λ i _. (c.type_inv.s i).fits)))
-    c.requires.0
+    a.width.narrow

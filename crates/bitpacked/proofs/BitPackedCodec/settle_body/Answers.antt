@@ -5,4 +5,4 @@ use Rattle.bitpacked.proofs.Body.{extent-asked}
 use Rattle.bitpacked.proofs.BitPackedCodec.settle_body.Goals as goal
 
 pub returns : goal.returns
-returns c room = ap (settled _ _ _ room) (c.settle_packed.ensures ∙ extent-asked _ _ _ _ c.requires.few)
+returns c room = ap (settled _ _ _ room) (rw c.before-2.ensures at c.settle_packed.ensures ∙ extent-asked _ _ _ _ c.args.body.few)

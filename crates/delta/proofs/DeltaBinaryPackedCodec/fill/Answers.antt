@@ -4,7 +4,7 @@ use Rattle.delta.proofs.DeltaBinaryPackedCodec.fill.Goals as goal
 
 pub fill-requires : goal.fill-requires
 unfolding validate_body
-fill-requires c = let v = c.requires.passed in (c.requires.room, v.few, record { padded = c.args.header.padded; extent = v.extent; passed = v.passed })
+fill-requires c = let v = c.requires.passed in (c.requires.room, record { padded = c.args.body.header.padded; extent = v.extent; passed = v.passed })
 
 pub returns : goal.returns
 unfolding body_values

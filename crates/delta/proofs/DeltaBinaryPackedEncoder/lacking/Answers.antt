@@ -5,8 +5,8 @@ use Rattle.delta.proofs.Measured.{body-limit}
 use Rattle.delta.proofs.DeltaBinaryPackedEncoder.lacking.Goals as goal
 
 pub lacking_for-requires-clause-short : goal.lacking_for-requires-clause-short
-lacking_for-requires-clause-short c = omega (arith, c.requires.measured, c.requires.few, body-limit c.args.column.now)
+lacking_for-requires-clause-short c = omega (arith, c.requires, c.args.column.few, body-limit c.args.column.values.now)
 
 pub returns : goal.returns
 unfolding body_of
-returns c = rw c.requires.measured at c.lacking_for.ensures
+returns c = rw c.requires at c.lacking_for.ensures

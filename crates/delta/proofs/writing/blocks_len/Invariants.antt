@@ -7,7 +7,4 @@ use Rattle.delta.specs.Written.{blocks_of}
 use Rattle.delta.proofs.writing.blocks_len.Given as goal
 
 abbrev pub invariant-loop-window : goal.invariant-loop-window
-invariant-loop-window l = l.total + length (blocks_of (deltas l.windows.rest.now)) ≡ length (blocks_of (deltas l.column))
-
-abbrev pub decreases-loop-window : goal.decreases-loop-window
-decreases-loop-window l = length l.windows.rest.now
+invariant-loop-window l = l.total + length (blocks_of (deltas l.window-iterator.0.now)) ≡ length (blocks_of (deltas l.fn.column.values.now))

@@ -1,40 +1,42 @@
 -- `writing::store` meets its contract: the first value, the block size and the blocks are stored one behind the other.
-use mathlib.Core.Path.{refl, sym, ap, ◌∙◌}
-use native.Mathlib.Omega.{arith}
-use lib.IntN.{pos}
-use lib.ListN.{get_or}
+use mathlib.Core.Path.{sym, ap, ◌∙◌}
 use lib.Seq.{sets}
 use borrow.Author.Rules.{rules}
-use Rattle.format.specs.Keys.{zigzag}
-use Rattle.format.specs.Varint.{varint_bytes}
-use Rattle.format.specs.Folds.{deltas}
-use Rattle.format.specs.Delta.{delta_block_size, delta_body}
-use Rattle.format.proofs.Numbers.Stores.{Storing, storing-none, storing-room}
-use Rattle.number.proofs.Signed.{held}
-use Rattle.places.proofs.Placing.{storing-uvarint}
-use Rattle.delta.specs.Written.{blocks_of}
-use Rattle.delta.proofs.Measured.{body-empty, body-parts}
+use Rattle.format.specs.Keys.{Key}
+use Rattle.format.proofs.Numbers.Stores.{storing-room}
+use Rattle.delta.proofs.Measured.{body-empty}
+use Rattle.delta.proofs.Placed.{first_some, size_some, size_stored}
 use Rattle.delta.proofs.writing.store.Goals as goal
-use Rattle.delta.proofs.writing.store.Goals.{After-put_uvarint-blocks_at}
 
-pub returns-then-column-eq0 : goal.returns-then-column-eq0
-returns-then-column-eq0 c =
+pub returns-in_default : goal.returns-in_default
+returns-in_default c =
     let a = c.args in
-    ap (sets a.out.now a.at) (sym (body-empty a.column.now c.if-column-eq0.true))
+    ap (sets a.out.now a.at) (sym (body-empty a.column.now c.in_default.ensures.value))
 
--- the blocks are next
-begun : (c : After-put_uvarint-blocks_at)
-    → let a = c.args in
-    Storing (delta_body a.column.now) a.out.now a.at (blocks_of (deltas a.column.now)) c.put_uvarint-blocks_at.new.out c.put_uvarint-blocks_at.result
-unfolding varint_bytes
-begun c =
-    let column = c.args.column.now in
-    let key = held (get_or column 0 (pos 0)) (search rules) in
-    let first = storing-uvarint storing-none c.requires (zigzag (get_or column 0 (pos 0))) _ (body-parts column (omega arith)) (rw key at c.put_varint-size_at.ensures.value, rw key at c.put_varint-size_at.ensures.out_after) in
-    storing-uvarint first c.requires delta_block_size (blocks_of (deltas column)) refl (c.put_uvarint-blocks_at.ensures.value, c.put_uvarint-blocks_at.ensures.out_after)
+pub unwrap-size_at-requires : goal.unwrap-size_at-requires
+unwrap-size_at-requires c =
+    let key : Key c.in-Some.field-0.now = search rules in
+    let p = c.put_varint.ensures in
+    first_some c.args.column.now _ _ c.requires c.in-Some.ensures.value key (p.value, p.out_after)
+
+pub unwrap-blocks_at-requires : goal.unwrap-blocks_at-requires
+unwrap-blocks_at-requires c =
+    let key : Key c.in-Some.field-0.now = search rules in
+    let p = c.put_varint.ensures in
+    let q = c.put_uvarint.ensures in
+    size_some c.args.column.now _ _ c.requires c.in-Some.ensures.value key (p.value, p.out_after) c.unwrap-size_at.ensures (q.value, q.out_after)
 
 pub store_blocks-requires : goal.store_blocks-requires
-store_blocks-requires c = storing-room (begun (goal.at.store_blocks-requires c).After-put_uvarint-blocks_at) c.requires
+store_blocks-requires c =
+    let key : Key c.in-Some.field-0.now = search rules in
+    let p = c.put_varint.ensures in
+    let q = c.put_uvarint.ensures in
+    storing-room (size_stored c.args.column.now _ _ c.requires c.in-Some.ensures.value key (p.value, p.out_after) c.unwrap-size_at.ensures (q.value, q.out_after) c.unwrap-blocks_at.ensures) c.requires
 
 pub returns : goal.returns
-returns c = c.store_blocks.ensures ∙ (begun (goal.at.returns c).After-put_uvarint-blocks_at).same
+returns c =
+    let key : Key c.in-Some.field-0.now = search rules in
+    let p = c.put_varint.ensures in
+    let q = c.put_uvarint.ensures in
+    c.store_blocks.ensures
+    ∙ (size_stored c.args.column.now _ _ c.requires c.in-Some.ensures.value key (p.value, p.out_after) c.unwrap-size_at.ensures (q.value, q.out_after) c.unwrap-blocks_at.ensures).same

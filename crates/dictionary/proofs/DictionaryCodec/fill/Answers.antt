@@ -8,7 +8,7 @@ unfolding validate_body
 fill-requires c =
     let a = c.args in
     let v = c.requires.passed in
-    (c.requires.room, body-passed a.chunk.now a.header.start a.header.count a.header.padded v.few v.passed)
+    (c.requires.room, body-passed a.body.chunk.now a.body.header.start a.body.header.count a.body.header.padded v.few v.passed)
 
 pub returns : goal.returns
 unfolding body_values

@@ -5,7 +5,7 @@ use mir.Facts.{to_z-of_z}
 use borrow.Author.Tests.{ne_eqb}
 use Rattle.format.specs.Keys.{wrapping_add}
 use Rattle.dictionary.specs.Reading.{entry_at}
-use Rattle.dictionary.proofs.ReadEntries.{wrapping_bits}
+use Rattle.number.proofs.Signed.{add-bits}
 use Rattle.dictionary.proofs.lookup.entry_at.Goals as goal
 
 pub returns : goal.returns
@@ -16,4 +16,4 @@ returns c =
     (to_z-of_z {w = w64} (record { sfits = c.wrapping_add.type_inv })
     ∙ c.wrapping_add.ensures
     ∙ ap₂ wrapping_add (to_z-of_z c.ranges.last) gap
-    ∙ wrapping_bits c.args.last c.args.value c.ranges.value.fits)
+    ∙ add-bits c.args.last c.args.value c.ranges.value.fits)

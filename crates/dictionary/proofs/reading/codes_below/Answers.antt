@@ -10,7 +10,7 @@ use Rattle.dictionary.proofs.reading.codes_below.Goals as goal
 
 -- those of a block and those after it
 both : (c : After-block_below)
-    → all_below c.args.entries (to_come c.loop-n.blocks) ≡ (c.block_below.result && all_below c.args.entries (to_come c.next.new.self))
+    → all_below c.args.entries (to_come c.loop-n.codes) ≡ (c.block_below.result && all_below c.args.entries (to_come c.next.new.self))
 both c =
     ap (all_below c.args.entries) c.in-Some.ensures.3
     ∙ below-append c.args.entries (take c.in-Some.n c.next.new.block) (to_come c.next.new.self)
@@ -19,7 +19,7 @@ both c =
 pub returns-then-not-block_below : goal.returns-then-not-block_below
 returns-then-not-block_below c =
     let w = (goal.at.returns-then-not-block_below c).After-block_below in
-    rw (c.if-not-block_below.true, c.loop-n.invariant, c.new-blocks.ensures) at (sym (both w))
+    rw (c.if-not-block_below.true, c.loop-n.invariant) at (sym (both w))
 
 pub loop-n-preserved : goal.loop-n-preserved
 loop-n-preserved c =
@@ -28,4 +28,4 @@ loop-n-preserved c =
 
 pub returns : goal.returns
 unfolding all_below
-returns c = sym (ap (all_below c.args.entries) c.in_default.ensures) ∙ c.loop-n.invariant ∙ ap (all_below c.args.entries) c.new-blocks.ensures
+returns c = sym (ap (all_below c.args.entries) c.in_default.ensures) ∙ c.loop-n.invariant

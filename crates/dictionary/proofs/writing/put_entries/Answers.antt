@@ -1,21 +1,14 @@
--- Each turn stores the gap to the next entry (`Putting`).
-use borrow.Author.Rules.{rules}
-use native.Mathlib.Omega.{arith}
-use Rattle.distinct.proofs.Machine.{read_back}
-use Rattle.dictionary.proofs.Entries.{putting-none, putting-more, putting-done}
+-- A number more is its varint.
+use Rattle.dictionary.proofs.Entries.{putting_begun, putting_some, putting_more}
 use Rattle.dictionary.proofs.writing.put_entries.Goals as goal
 
-pub returns-in_default : goal.returns-in_default
-returns-in_default c =
-    let both = putting-none c.args.entries.now c.in_default.ensures.cases in
-    record { value = both.0; out_after = both.1 }
+pub loop-number-init : goal.loop-number-init
+loop-number-init c = putting_begun _ _ _ _ (rw c.into_iter-number-iterator.ensures.into_iter_gives c.new-number-items.ensures)
 
-pub loop-entry-preserved : goal.loop-entry-preserved
-loop-entry-preserved c =
-    putting-more _ _ c.args.out.now _ c.requires c.in-Some.ensures.cases.0 (read_back (search rules)) (c.put_varint-at.ensures.value, c.put_varint-at.ensures.out_after) c.loop-entry.invariant (omega arith)
-    (read_back (search rules)) c.gap.ensures (c.put_uvarint-at.ensures.value, c.put_uvarint-at.ensures.out_after)
+pub unwrap-at-requires : goal.unwrap-at-requires
+unwrap-at-requires c =
+    putting_some _ _ _ _ _ _ c.loop-number.invariant _ c.requires c.in-Some.ensures.steps (c.put_uvarint.ensures.value, c.put_uvarint.ensures.out_after)
 
-pub returns : goal.returns
-returns c =
-    let both = putting-done _ _ c.args.out.now _ c.requires c.in-Some.ensures.cases.0 (read_back (search rules)) (c.put_varint-at.ensures.value, c.put_varint-at.ensures.out_after) c.loop-entry.invariant (omega arith) in
-    record { value = both.0; out_after = both.1 }
+pub loop-number-preserved : goal.loop-number-preserved
+loop-number-preserved c =
+    putting_more _ _ _ _ _ _ c.loop-number.invariant _ c.requires c.in-Some.ensures.steps (c.put_uvarint.ensures.value, c.put_uvarint.ensures.out_after) c.unwrap-at.ensures

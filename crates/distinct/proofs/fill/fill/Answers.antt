@@ -1,27 +1,27 @@
 -- `fill` meets its contract: each turn keeps `Gathering`, in one of three ways, and its laws say what holds at either end.
 use borrow.Author.Rules.{rules}
-use mathlib.Core.Bool.{cond}
-use mathlib.Core.Path.{◌≡◌, refl, sym, ap, ◌∙◌}
-use Prim.Native.Nat.{ℕ, ◌+◌, ◌-◌, ◌≤◌, ◌<◌}
+use mathlib.Core.Bool.{true, false}
+use mathlib.Core.Path.{◌≡◌, sym, ap, ◌∙◌}
 use mathlib.Core.List.{List, [], ◌∷◌}
+use Prim.Native.Nat.{ℕ, ◌+◌, ◌-◌, ◌≤◌, ◌<◌}
 use native.Mathlib.Numerals.{add-one}
-use Rattle.format.specs.Distinct.{Rising}
-use Rattle.format.specs.Keys.{Key}
 use native.Mathlib.Omega.{arith}
 use lib.IntN.{ℤ, pos}
 use lib.ListN.{length, get_or, take, drop}
-use lib.Seq.{take_all, length-take-le}
+use lib.Seq.{take_all}
 use mir.Syntax.{w64}
 use mir.Val.{to_z, of_z}
-use Rattle.format.specs.Answers.{stored}
-use Rattle.format.specs.Encodings.{max_dictionary_cardinality}
-use Rattle.distinct.specs.Collect.{vacant, gathered, gathered_count}
-use Rattle.distinct.specs.Merge.{merged, Mergeable}
+use Rattle.std.specs.Prelude.{is_ok}
+use Rattle.format.proofs.Plan.Checks.{length-stored}
+use Rattle.format.specs.Distinct.{scratch_needed, collected}
+use Rattle.format.specs.Keys.{Key}
+use Rattle.distinct.specs.Collect.{has}
+use Rattle.distinct.specs.Sorted.{values_of}
 use Rattle.distinct.proofs.Machine.{read_back}
-use Rattle.distinct.proofs.Collecting.{Gathering, gathering-first, gathering-asks, gathering-merges, gathering-merged, gathering-done}
-use Rattle.distinct.proofs.Collecting.{gathering-part, gathering-asked, gathering-known, gathering-taken, gathering-stays, gathering-full}
+use Rattle.distinct.proofs.Collecting.{Gathering, gathering-first, gathering-merges, gathering-merged, gathering-done, gathering-stays}
+use Rattle.distinct.proofs.Collecting.{gathering-known, gathering-held, gathering-taken, gathering-full, asked-rising, asked_has, has_found, taken-long, cleared-long}
 use Rattle.distinct.proofs.fill.fill.Goals as goal
-use Rattle.distinct.proofs.fill.fill.Goals.{After-gather-more, After-note, Else-more-cap, Else-note, Else-waiting-pending, Then-more-cap}
+use Rattle.distinct.proofs.fill.fill.Goals.{After-find, Else-is_ok, In-Ok, In_default, then-is_full, else-is_full}
 
 -- the keys after the first, as the loop reads them
 abbrev later_keys : List ℤ → List ℤ
@@ -45,126 +45,107 @@ ended (v ∷ vs) k some h =
 key_is : (column : List ℤ) (k : ℕ) → k < length (later_keys column) → Key (get_or (later_keys column) k (pos 0)) → machine column k ≡ get_or column (k + 1) (pos 0)
 key_is column k h fits = read_back fits ∙ (later column k h).1
 
+-- the scratch is long enough
+needed : (column : List ℤ) {scratch slots : List ℤ} → slots ≡ scratch → scratch_needed column ≤ length scratch → scratch_needed column ≤ length slots
+needed column e h = rw e h
+
 pub loop-key-init : goal.loop-key-init
 loop-key-init c =
-    let pre = c.requires in
-    (gathering-first _ _ pre.column_in_bounds.1 pre.column_in_bounds.2 pre.column_in_bounds.3 pre.pos_value pre.by_index, pre.column_in_bounds.2, refl, refl)
+    let pre = c.requires.column_in_bounds in
+    let w = c.of-waiting.ensures in
+    (gathering-first _ _ pre.1 c.new-held.ensures.count c.args.pending.now w.buffer w.count (read_back (search rules)) c.requires.begun c.requires.by_index, omega (arith, w.count, pre.2, ap length w.buffer ∙ length-stored (_ ∷ []) c.args.pending.now (omega (arith, pre.2))))
 
--- ---- a key that stood in its slot
+-- a buffer that is not full
+not-full : {n limit : ℕ} → (n ≡ limit → false ≡ true) → n ≤ limit → n < limit
+not-full {n} {limit} f h =
+    let other : n ≡ limit → ⊥ = λ (e : n ≡ limit). (let g = f e in let z : ◌≡◌ {A = ℕ} 0 1 = cc in omega arith) in
+    omega (arith, other)
+
+-- ---- a key that was met
 
 pub loop-key-preserved-then-note : goal.loop-key-preserved-then-note
 loop-key-preserved-then-note c =
-    let noted = c.note.ensures in
-    let inv = c.loop-key.invariant in (
-      gathering-known _ _ c.requires.column_in_bounds.0 inv.0 (later _ _ c.loop-key-test.true).0 (key_is _ _ c.loop-key-test.true (search rules)) noted.seen_after noted.value c.if-note.true,
-      inv.1,
-      inv.2,
-      c.note.auto.seen ∙ inv.3,
-    )
+    let n = needed c.args.column.now c.new-held.ensures.buffer c.requires.column_in_bounds.0 in
+    let inv = c.loop-key.invariant in
+    (gathering-known _ _ n inv.0 (later _ _ c.loop-key-test.true).0 (key_is _ _ c.loop-key-test.true (search rules)) c.note.ensures.noted c.note.ensures.value c.if-note.true, inv.1)
 
--- ---- one that did not
+pub find-requires : goal.find-requires
+find-requires c = asked-rising _ _ c.loop-key.invariant.0 _ c.to_ask-asked.ensures c.values.ensures
 
--- how many of the values held are asked
-asks : (c : After-note)
-    → let column = c.args.column.now in
-    c.to_ask-asked.result ≡ cond (vacant c.loop-key.seen (get_or column 0 (pos 0)) (machine column c.loop-key.key-index)) 0 c.loop-key.held
-asks c =
-    let v = machine c.args.column.now c.loop-key.key-index in
-    c.to_ask-asked.ensures ∙ ap (λ (f : ℤ). cond (vacant c.loop-key.seen f v) 0 c.loop-key.held) (read_back (search rules))
+-- what is found in the values that are asked
+found : (c : After-find) → has (values_of c.loop-key.held) (machine c.args.column.now c.loop-key.key-index) ≡ is_ok c.find.result
+found c =
+    sym (asked_has _ _ c.loop-key.invariant.0 _ c.to_ask-asked.ensures c.values.ensures)
+    ∙ has_found c.find.result _ c.find.ensures.found c.find.ensures.absent
 
-part : (c : Else-note) → (c.to_ask-asked.result ≤ length c.loop-key.scratch) × Rising (take c.to_ask-asked.result c.loop-key.scratch)
-part c =
-    gathering-part _ _ c.requires.column_in_bounds.0 c.loop-key.invariant.0 (later _ _ c.loop-key-test.true).0 (key_is _ _ c.loop-key-test.true (search rules))
-    (asks (goal.at.Else-note c).After-note)
+pub loop-key-preserved-then-is_ok : goal.loop-key-preserved-then-is_ok
+loop-key-preserved-then-is_ok c =
+    let n = needed c.args.column.now c.new-held.ensures.buffer c.requires.column_in_bounds.0 in
+    let inv = c.loop-key.invariant in
+    let had = found (goal.at.loop-key-preserved-then-is_ok c).After-find ∙ sym c.is_ok.ensures.value ∙ c.if-is_ok.true in
+    (gathering-held _ _ n inv.0 (later _ _ c.loop-key-test.true).0 (key_is _ _ c.loop-key-test.true (search rules)) c.note.ensures.noted had, inv.1)
 
-pub slice_bounds-gather-end : goal.slice_bounds-gather-end
-slice_bounds-gather-end c = (part (goal.at.slice_bounds-gather-end c).Else-note).0
+-- ---- one that was not
 
-pub slice_bounds-gather-end-in-loop-key : goal.slice_bounds-gather-end-in-loop-key
-slice_bounds-gather-end-in-loop-key c = sym (length-take-le _ _ (part (goal.at.slice_bounds-gather-end-in-loop-key c).Else-note).0)
+absent : (c : Else-is_ok) → has (values_of c.loop-key.held) (machine c.args.column.now c.loop-key.key-index) ≡ false
+absent c = found (goal.at.Else-is_ok c).After-find ∙ sym c.is_ok.ensures.value ∙ c.if-is_ok.false
 
-pub gather-more-requires : goal.gather-more-requires
-gather-more-requires c =
-    let g = c.loop-key.invariant.0 in
-    record {
-      waiting_le_cap = ((gathering-asks _ _ c.requires.column_in_bounds.0 g).1, c.loop-key.invariant.1);
-      rising = ((part (goal.at.gather-more-requires c).Else-note).1, g.rest);
-    }
-
--- what that finds is what asking all would find
-told : (c : After-gather-more)
-    → let l = c.loop-key in
-    let v = machine c.args.column.now l.key-index in
-    let held = take l.held l.scratch in
-    let waiting = take l.waiting l.pending in
-    (c.gather-more.result ≡ gathered_count held v waiting)
-    × (c.gather-more.new.pending ≡ stored (gathered (max_dictionary_cardinality - l.held) held v waiting) l.pending)
-told c =
-    gathering-asked _ _ c.requires.column_in_bounds.0 c.loop-key.invariant.0 (later _ _ c.loop-key-test.true).0 (key_is _ _ c.loop-key-test.true (search rules)) (asks (goal.at.After-gather-more c).After-note) _
-    c.gather-more.ensures.value c.gather-more.ensures.pending_after
-
-gathers : (c : Else-more-cap)
-    → Gathering c.args.column.now c.args.scratch.now c.loop-key.scratch c.gather-more.new.pending c.note.new.seen c.loop-key.held
-    c.gather-more.result (c.loop-key.key-index + 1 + 1)
+gathers : (c : In-Ok) → Gathering c.args.column.now c.new-held.result c.loop-key.held c.take_in.new.self c.note.new.self (c.loop-key.key-index + 1 + 1)
 gathers c =
-    let t = told (goal.at.Else-more-cap c).After-gather-more in
-    gathering-taken _ _ c.requires.column_in_bounds.0 c.loop-key.invariant.0 (later _ _ c.loop-key-test.true).0 (key_is _ _ c.loop-key-test.true (search rules)) c.note.ensures.seen_after t.0 t.1 c.loop-key.invariant.1 c.if-more-cap.false
+    let n = needed c.args.column.now c.new-held.ensures.buffer c.requires.column_in_bounds.0 in
+    gathering-taken _ _ n c.loop-key.invariant.0 (later _ _ c.loop-key-test.true).0 (key_is _ _ c.loop-key-test.true (search rules)) c.note.ensures.noted (absent (goal.at.In-Ok c).Else-is_ok)
+    (rw c.len.ensures at c.in-Ok.ensures.ok)
 
--- the buffer and the table keep their lengths
-lengths : (c : After-gather-more)
-    → (length c.gather-more.new.pending ≡ length c.args.pending.now) × (length c.note.new.seen ≡ length c.args.seen.now)
-lengths c = (c.gather-more.auto.pending ∙ c.loop-key.invariant.2, c.note.auto.seen ∙ c.loop-key.invariant.3)
-
-pub loop-key-preserved-then-waiting-pending : goal.loop-key-preserved-then-waiting-pending
-loop-key-preserved-then-waiting-pending c =
-    let at = goal.at.loop-key-preserved-then-waiting-pending c in
-    let w = lengths at.After-gather-more in
-    let g = gathers at.Else-more-cap in
-    (g, omega (arith, g.space, c.if-waiting-pending.true), w.0, w.1)
-
--- ---- the buffer is full
-
-full : (c : Else-waiting-pending) → let q = c.gather-more.new.pending in take c.gather-more.result q ≡ q
-full c = let a = c.gather-more in take_all a.result a.new.pending c.if-waiting-pending.false
-
-pub merge-requires-in-loop-key : goal.merge-requires-in-loop-key
-merge-requires-in-loop-key c =
-    let at = goal.at.merge-requires-in-loop-key c in
-    rw (full at.Else-waiting-pending) at (gathering-merges _ _ c.requires.column_in_bounds.0 (gathers at.Else-more-cap))
+pub merge-requires-then-is_full : goal.merge-requires-then-is_full
+merge-requires-then-is_full c =
+    let n = needed c.args.column.now c.new-held.ensures.buffer c.requires.column_in_bounds.0 in
+    let m = gathering-merges _ _ n (gathers (goal.at.merge-requires-then-is_full c).In-Ok) in
+    record { room = m.0; apart = m.1 }
 
 pub loop-key-preserved : goal.loop-key-preserved
 loop-key-preserved c =
-    let at = goal.at.loop-key-preserved c in
-    let w = lengths at.After-gather-more in
-    let pre = c.requires.column_in_bounds in
-    (gathering-merged _ _ pre.0 (gathers at.Else-more-cap) (c.merge-in-loop-key.ensures ∙ ap (merged _ _) (sym (full at.Else-waiting-pending))), omega (arith, w.0, pre.2), w.0, w.1)
+    let n = needed c.args.column.now c.new-held.ensures.buffer c.requires.column_in_bounds.0 in
+    let g = gathers (goal.at.loop-key-preserved c).In-Ok in
+    let long = taken-long c.loop-key.invariant.1 _ (rw c.len.ensures at c.in-Ok.ensures.ok).1 in
+    let some = c.loop-key.invariant.1 in
+    elim c.if-is_full.branch [
+      | then-is_full w ↦ rw (w.held-is, w.waiting-is) (gathering-merged _ _ n g w.merge-then-is_full.ensures w.clear.ensures.count, omega (arith, long, some, w.clear.ensures.count, cleared-long w.clear.ensures))
+      | else-is_full w ↦ rw (w.held-is, w.waiting-is) (g, not-full w.if-is_full.ensures.1 c.take_in.new.self.inside)
+    ]
 
 -- ---- one too many
 
-stays : (c : Then-more-cap)
-    → let l = c.loop-key in
-    let q = c.gather-more.new.pending in
-    (l.waiting ≤ length q) × Mergeable l.scratch l.held (take l.waiting q)
-stays c =
-    let t = told (goal.at.Then-more-cap c).After-gather-more in
-    gathering-stays _ _ c.requires.column_in_bounds.0 c.loop-key.invariant.0 (later _ _ c.loop-key-test.true).0 (key_is _ _ c.loop-key-test.true (search rules)) c.note.ensures.seen_after t.0 t.1 c.if-more-cap.true
+stays : (c : In_default) → Gathering c.args.column.now c.new-held.result c.loop-key.held c.take_in.new.self c.loop-key.seen (c.loop-key.key-index + 1)
+stays c = gathering-stays _ _ (needed c.args.column.now c.new-held.ensures.buffer c.requires.column_in_bounds.0) c.loop-key.invariant.0 c.in_default.ensures.full.1
 
-pub returns-then-more-cap : goal.returns-then-more-cap
-returns-then-more-cap c =
-    let f = told (goal.at.returns-then-more-cap c).After-gather-more in
+pub merge-requires : goal.merge-requires
+merge-requires c =
+    let m = gathering-merges _ _ (needed c.args.column.now c.new-held.ensures.buffer c.requires.column_in_bounds.0) (stays (goal.at.merge-requires c).In_default) in
+    record { room = m.0; apart = m.1 }
+
+pub returns-in_default : goal.returns-in_default
+returns-in_default c =
+    let n = needed c.args.column.now c.new-held.ensures.buffer c.requires.column_in_bounds.0 in
+    let d = (goal.at.returns-in_default c).In_default in
+    let e = c.in_default.ensures.full in
     let p =
-    gathering-full _ _ c.requires.column_in_bounds.0 c.loop-key.invariant.0 (later _ _ c.loop-key-test.true).0 (key_is _ _ c.loop-key-test.true (search rules)) c.note.ensures.seen_after f.0 f.1 c.if-more-cap.true c.merge.ensures in
-    record { value = rw c.at.ensures p.0; scratch_after = p.1 }
+    gathering-full _ _ n c.loop-key.invariant.0 (later _ _ c.loop-key-test.true).0 (key_is _ _ c.loop-key-test.true (search rules)) c.note.ensures.noted (absent (goal.at.returns-in_default c).Else-is_ok)
+    (rw c.len.ensures at e).0 e.1 c.merge.ensures in
+    let same = sym (c.merge.ensures.same_buffer ∙ c.loop-key.invariant.0.front.same_buffer ∙ c.new-held.ensures.same_buffer) in
+    let is = p.1 ∙ ap (collected c.args.column.now) c.new-held.ensures.buffer in
+    record { value = rw c.at.ensures p.0; scratch_after = rw (← is) (search rules) }
 
 -- ---- all keys
 
 pub merge-requires-2 : goal.merge-requires-2
-merge-requires-2 c = gathering-merges _ _ c.requires.column_in_bounds.0 c.loop-key.invariant.0
+merge-requires-2 c =
+    let m = gathering-merges _ _ (needed c.args.column.now c.new-held.ensures.buffer c.requires.column_in_bounds.0) c.loop-key.invariant.0 in
+    record { room = m.0; apart = m.1 }
 
 pub returns : goal.returns
 returns c =
-    let p = gathering-done _ _ c.requires.column_in_bounds.0 c.loop-key.invariant.0 c.merge-2.ensures (ended _ _ c.requires.column_in_bounds.1 c.loop-key-test.false) in
-    record { value = p.0; scratch_after = p.1 }
-
-pub merge-requires : goal.merge-requires
-merge-requires c = (stays (goal.at.merge-requires c).Then-more-cap).1
+    let n = needed c.args.column.now c.new-held.ensures.buffer c.requires.column_in_bounds.0 in
+    let p = gathering-done _ _ n c.loop-key.invariant.0 c.merge-2.ensures (ended _ _ c.requires.column_in_bounds.1 c.loop-key-test.false) in
+    let same = sym (c.merge-2.ensures.same_buffer ∙ c.loop-key.invariant.0.front.same_buffer ∙ c.new-held.ensures.same_buffer) in
+    let is = p.1 ∙ ap (collected c.args.column.now) c.new-held.ensures.buffer in
+    record { value = rw c.len-2.ensures p.0; scratch_after = rw (← is) (search rules) }

@@ -5,4 +5,6 @@ use Rattle.frame.proofs.Body.{frame-asked}
 use Rattle.frame.proofs.FrameOfReferenceCodec.settle_body.Goals as goal
 
 pub returns : goal.returns
-returns c room = ap (settled _ _ _ room) (c.settle_packed.ensures ∙ frame-asked _ _ _ _ c.requires.few c.if-chunk-header.false)
+returns c room =
+    let there = rw c.before-before.ensures at c.if-body-before.false in
+    ap (settled _ _ _ room) (rw c.before-before.ensures at c.settle_packed.ensures ∙ frame-asked _ _ _ _ c.args.body.few there)

@@ -1,5 +1,5 @@
 -- The least and the greatest value of what was walked over and what is left are the column's (`Bounded`).
-use mathlib.Core.Path.{ap, ◌∙◌}
+use mathlib.Core.Path.{refl, ap, ◌∙◌}
 use native.Mathlib.Omega.{arith}
 use lib.IntN.{pos}
 use lib.ListN.{get_or}
@@ -29,7 +29,7 @@ pub returns : goal.returns
 returns c =
     let b = c.loop-value.invariant in
     let end = c.loop-value-test.false in
-    record { base = bounded-least b end; widest = c.required_width.ensures ∙ ap width c.gap.ensures ∙ bounded-width b end }
+    record { base = bounded-least b end; widest = c.of-2.ensures ∙ ap width c.gap.ensures ∙ bounded-width b end }
 
 pub returns-in_default : goal.returns-in_default
-returns-in_default c = let none = c.in_default.ensures.item.3 in fitted_none (omega arith)
+returns-in_default c = let none = c.in_default.ensures.item.3 in fitted_none (omega arith) refl c.of.ensures

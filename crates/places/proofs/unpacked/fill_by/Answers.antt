@@ -1,11 +1,10 @@
 -- The column has room for the values to come; and when they are stored from here, all are stored from its front on.
 use mathlib.Core.Path.{◌≡◌, refl, sym, ap, ◌∙◌}
 use mathlib.Core.List.{List}
-use Prim.Native.Nat.{ℕ, ◌+◌}
+use Prim.Native.Nat.{ℕ}
 use native.Mathlib.Omega.{arith}
-use lib.ListN.{length, get_or, take, drop}
+use lib.ListN.{length, take, drop}
 use lib.Seq.{sets, length-take-le}
-use Rattle.format.proofs.Codecs.Counts.{length-packed_values}
 use Rattle.places.specs.Blocks.{to_come}
 use Rattle.places.proofs.unpacked.fill_by.Goals as goal
 use Rattle.places.proofs.unpacked.fill_by.Goals.{In-Some}
@@ -15,9 +14,7 @@ front : (g : _) (c : In-Some g) → length (take c.in-Some.n c.next.new.block) �
 front g c = length-take-le c.in-Some.n c.next.new.block (omega (arith, c.in-Some.ensures.1, c.next.array_long))
 
 pub loop-n-init : goal.loop-n-init
-loop-n-init g c =
-    let a = c.args in
-    (omega (arith, c.requires.1, ap length c.new-blocks.ensures, length-packed_values a.chunk.now (a.place + 1) (get_or a.chunk.now a.place 0) a.count), refl)
+loop-n-init g c = (omega (arith, c.requires), refl)
 
 pub loop-n-preserved : goal.loop-n-preserved
 loop-n-preserved g c =
@@ -34,4 +31,3 @@ returns g c =
     let l = c.loop-n in
     let none = ap (λ (codes : List ℕ). g.D.Decoding.values l.decoding codes (drop l.i l.column)) c.in_default.ensures ∙ g.met.D.Decoding.none l.decoding (drop l.i l.column) in
     ap (sets l.column l.i) (sym none) ∙ l.invariant.1
-    ∙ ap (λ (codes : List ℕ). sets c.args.column.now 0 (g.D.Decoding.values c.args.decoding.now codes c.args.column.now)) c.new-blocks.ensures

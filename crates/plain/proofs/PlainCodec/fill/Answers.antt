@@ -17,19 +17,21 @@ unfolding key_at
 loop-i-preserved c =
     let l = c.loop-i in
     let a = c.args in
-    let s = a.chunk.now in
+    let s = a.body.chunk.now in
+    let h = a.body.header in
     let key = c.of_bits.ensures ∙ ap as_signed c.load.ensures in
-    let under : l.i < a.header.count = omega (arith, c.loop-i-test.true, length-take-le a.header.count a.column.now c.requires.room) in
-    rw (to_z-of_z {w = w64} (record { sfits = c.of_bits.type_inv }), key) (value-more s a.header.start a.header.count l.i l.invariant under)
+    let under : l.i < h.count = omega (arith, c.loop-i-test.true, length-take-le h.count a.column.now c.requires.room) in
+    rw (to_z-of_z {w = w64} (record { sfits = c.of_bits.type_inv }), key) (value-more s h.start h.count l.i l.invariant under)
 
 pub returns : goal.returns
 unfolding body_values
 returns c =
     let l = c.loop-i in
     let a = c.args in
-    let s = a.chunk.now in
-    let over : a.header.count ≤ l.i = omega (arith, c.loop-i-test.false, length-take-le a.header.count a.column.now c.requires.room) in
-    front-filled s a.header.start a.header.count a.column.now c.requires.room (storing-done l.invariant (values-end s _ a.header.count l.i over))
+    let s = a.body.chunk.now in
+    let h = a.body.header in
+    let over : h.count ≤ l.i = omega (arith, c.loop-i-test.false, length-take-le h.count a.column.now c.requires.room) in
+    front-filled s h.start h.count a.column.now c.requires.room (storing-done l.invariant (values-end s _ h.count l.i over))
 
 pub load-requires : goal.load-requires
-load-requires c = omega (arith, body_inside c.requires.passed, c.loop-i-test.true, length-take-le c.args.header.count c.args.column.now c.requires.room)
+load-requires c = omega (arith, body_inside c.requires.passed, c.loop-i-test.true, length-take-le c.args.body.header.count c.args.column.now c.requires.room)

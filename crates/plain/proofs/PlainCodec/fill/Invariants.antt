@@ -5,4 +5,4 @@ use Rattle.format.proofs.Numbers.Stores.{Storing}
 use Rattle.plain.proofs.PlainCodec.fill.Given as goal
 
 abbrev pub invariant-loop-i : goal.invariant-loop-i
-invariant-loop-i l = Storing (plain_values l.chunk l.header.start l.header.count) l.initial.slot-items 0 (plain_values l.chunk (l.header.start + 8 * l.i) (l.header.count - l.i)) l.slot-items l.i
+invariant-loop-i l = Storing (plain_values l.fn.body.chunk.now l.start l.count) l.initial.slot-items 0 (plain_values l.fn.body.chunk.now (l.start + 8 * l.i) (l.count - l.i)) l.slot-items l.i

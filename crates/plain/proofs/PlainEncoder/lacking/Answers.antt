@@ -5,4 +5,4 @@ use Rattle.plain.proofs.PlainEncoder.lacking.Goals as goal
 
 pub returns : goal.returns
 unfolding body_of
-returns c = rw (length-plain_body c.args.column.now) c.lacking_for.ensures
+returns c = rw (length-plain_body c.args.column.values.now) c.lacking_for.ensures

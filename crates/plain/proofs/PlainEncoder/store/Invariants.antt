@@ -6,4 +6,4 @@ use Rattle.format.proofs.Numbers.Stores.{Storing}
 use Rattle.plain.proofs.PlainEncoder.store.Given as goal
 
 abbrev pub invariant-loop-i : goal.invariant-loop-i
-invariant-loop-i l = (l.i ≤ length l.column) × Storing (plain_body l.column) l.initial.out l.at (plain_body (drop l.i l.column)) l.out (l.at + 8 * l.i)
+invariant-loop-i l = (l.i ≤ length l.fn.column.values.now) × Storing (plain_body l.fn.column.values.now) l.initial.out l.at (plain_body (drop l.i l.fn.column.values.now)) l.out (l.at + 8 * l.i)

@@ -6,4 +6,4 @@ use Rattle.format.specs.Runs.{runs, run_bytes}
 use Rattle.runs.proofs.writing.runs_len.Given as goal
 
 abbrev pub invariant-loop-key : goal.invariant-loop-key
-invariant-loop-key l = l.bytes + length (run_bytes (runs l.key-iterator.0.now)) ≡ length (run_bytes (runs l.column))
+invariant-loop-key l = l.bytes + length (run_bytes (runs l.key-iterator.0.now)) ≡ length (run_bytes (runs l.fn.column.values.now))

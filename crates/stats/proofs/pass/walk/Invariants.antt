@@ -3,4 +3,4 @@ use Rattle.stats.proofs.Walking.{Walked}
 use Rattle.stats.proofs.pass.walk.Given as goal
 
 abbrev pub invariant-loop-i : goal.invariant-loop-i
-invariant-loop-i l = Walked l.column l.i l.last l.values l.runs l.steps
+invariant-loop-i l = Walked l.fn.column.values.now l.i l.last l.values l.runs l.steps

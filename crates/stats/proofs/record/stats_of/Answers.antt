@@ -1,8 +1,9 @@
 -- `record::stats_of` meets its contract, field by field: what the pass gives, and what the calls make of it.
-use mathlib.Core.Path.{◌≡◌, ◌∙◌}
+use mathlib.Core.Path.{◌≡◌, sym, ◌∙◌}
 use lib.IntN.{pos}
 use lib.ListN.{get_or}
 use borrow.Author.Rules.{rules}
+use borrow.Author.Tests.{eqb-true, eqb-false}
 use Rattle.format.specs.Keys.{gap}
 use Rattle.format.specs.Statistics.{refused_stats}
 use Rattle.number.proofs.Signed.{held}
@@ -10,22 +11,22 @@ use Rattle.stats.proofs.Fields.{result-of}
 use Rattle.stats.proofs.Recording.{stats-none, stats-made}
 use Rattle.stats.proofs.record.stats_of.Goals as goal
 
-pub returns-then-column-eq0 : goal.returns-then-column-eq0
+pub returns-then-is_empty : goal.returns-then-is_empty
 unfolding refused_stats
-returns-then-column-eq0 c =
+returns-then-is_empty c =
     let empty : c.default.result ≡ refused_stats = search rules in
-    empty ∙ stats-none _ c.if-column-eq0.true
+    empty ∙ stats-none _ (eqb-true _ 0 (sym c.is_empty.ensures ∙ c.if-is_empty.true))
 
 pub returns : goal.returns
 returns c =
     let p = c.walk-pass.result in
     rw (
-      held (get_or c.args.column.now 0 (pos 0)) (search rules),
+      held (get_or c.args.column.values.now 0 (pos 0)) (search rules),
       held p.values.low (search rules),
       held p.values.high (search rules),
       held p.steps.low (search rules),
       held p.steps.high (search rules),
     )
-    (stats-made _ p c.if-column-eq0.false c.walk-pass.ensures c.requires.1 c.sortedness_of.ensures
+    (stats-made _ p (eqb-false _ 0 (sym c.is_empty.ensures ∙ c.if-is_empty.false)) c.walk-pass.ensures c.requires c.sortedness_of.ensures
     (result-of gap p.values.low p.values.high (search rules) (search rules) c.gap.ensures)
     (result-of gap p.steps.low p.steps.high (search rules) (search rules) c.gap-2.ensures))

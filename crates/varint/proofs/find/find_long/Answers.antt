@@ -1,12 +1,6 @@
--- `varint::find::find_long` meets its contract: the ninth byte tells which is the last, and that one whether there is a value.
-use Rattle.std.proofs.Common.{rules}
-use Rattle.varint.proofs.Finding.{found-long, found-over}
+-- `varint::find::find_long` meets its contract: where the last byte that may be is no last one, nothing is found.
+use Rattle.varint.proofs.Finding.{found_over}
 use Rattle.varint.proofs.find.find_long.Goals as goal
 
 pub returns-then-last-ge128 : goal.returns-then-last-ge128
-returns-then-last-ge128 c = found-over _ _ c.requires.0 c.more_of-more.ensures.0 (search rules) c.requires.1 c.if-last-ge128.true
-
-pub returns : goal.returns
-returns c =
-    rw (c.group-2.ensures, c.group.ensures)
-    (found-long _ _ c.requires.0 c.more_of-more.ensures.0 (search rules) c.requires.1 c.if-last-ge128.false)
+returns-then-last-ge128 c = found_over _ _ c.requires.1 c.from-more.ensures c.if-last-ge128.true c.requires.0

@@ -1,6 +1,6 @@
 -- `varint::long::read_word` meets its contract: where none of the eight bytes is the last, `read_long` goes on from there, and else the word holds the varint.
 use Rattle.format.proofs.Numbers.All.{all-by, Below}
-use Rattle.varint.proofs.FromWord.{word_over, word-stop, word-answer}
+use Rattle.varint.proofs.FromWord.{word_over, word_stop, word_answer}
 use Rattle.varint.proofs.long.read_word.Goals.{After-groups-low}
 use Rattle.varint.proofs.long.read_word.Goals as goal
 
@@ -15,5 +15,5 @@ read_long-requires c =
 pub returns : goal.returns
 returns c =
     let b = bytes (goal.at.returns c).After-groups-low in
-    let stop = word-stop c.args.at b c.requires.0 c.load-x.ensures c.if-ends-eq0.false in
-    rw c.groups-low.ensures (word-answer c.args.at b c.requires.0 c.load-x.ensures stop c.requires.1)
+    let stop = word_stop c.args.at b c.requires.0 c.load-x.ensures c.if-ends-eq0.false in
+    rw c.groups-low.ensures (word_answer c.args.at b c.requires.0 c.load-x.ensures stop c.requires.1)

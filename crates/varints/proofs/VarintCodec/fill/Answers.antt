@@ -10,4 +10,4 @@ unfolding body_values
 returns c =
     let a = c.args in
     let v = c.requires.passed in
-    stored-sets v a.column.now c.requires.room (c.fill_keys.ensures ∙ all-alone a.chunk.now a.header.start a.header.count a.column.now v.few c.requires.room)
+    stored-sets v a.column.now c.requires.room (c.fill_keys.ensures ∙ all-alone a.body.chunk.now a.body.header.start a.body.header.count a.column.now v.few c.requires.room)

@@ -9,9 +9,9 @@ use Rattle.varints.proofs.VarintCodec.settle_body.Goals as goal
 pub returns-then-readable : goal.returns-then-readable
 unfolding validate_body validate_varint_body
 returns-then-readable c =
-    let h = c.args.header in
-    settled-passed c.args.chunk.now h.start h.count c.if-not-strict.true (c.readable.ensures c.if-readable.true) _ h.padded
+    let h = c.args.body.header in
+    settled-passed c.args.body.chunk.now h.start h.count c.if-not-strict.true (c.readable.ensures c.if-readable.true) _ h.padded
 
 pub returns : goal.returns
 unfolding validate_body validate_varint_body
-returns c room = ap (settled _ _ _ room) c.settle_uvarints.ensures
+returns c room = ap (settled _ _ _ room) (rw c.before-before.ensures at c.settle_uvarints.ensures)

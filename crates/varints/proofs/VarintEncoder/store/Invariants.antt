@@ -6,4 +6,4 @@ use Rattle.format.proofs.Numbers.Stores.{Storing}
 use Rattle.varints.proofs.VarintEncoder.store.Given as goal
 
 abbrev pub invariant-loop-value : goal.invariant-loop-value
-invariant-loop-value l = (l.value-index ≤ length l.column) × Storing (varint_body l.column) l.initial.out l.at (varint_body (drop l.value-index l.column)) l.out l.next
+invariant-loop-value l = (l.value-index ≤ length l.fn.column.values.now) × Storing (varint_body l.fn.column.values.now) l.initial.out l.at (varint_body (drop l.value-index l.fn.column.values.now)) l.out l.next

@@ -6,4 +6,4 @@ use Rattle.varints.specs.Lengths.{capped}
 use Rattle.varints.proofs.lengths.len_by_bytes.Given as goal
 
 abbrev pub invariant-loop-k : goal.invariant-loop-k
-invariant-loop-k l = (l.k-end ≡ uvarint_len l.bits) × (1 ≤ l.k) × (l.k ≤ l.k-end) × (l.len ≡ capped l.k l.column)
+invariant-loop-k l = (l.k-end ≡ uvarint_len l.bits) × (1 ≤ l.k) × (l.k ≤ l.k-end) × (l.len ≡ capped l.k l.fn.column.values.now)

@@ -6,4 +6,4 @@ use Rattle.varints.specs.Lengths.{longer}
 use Rattle.varints.proofs.lengths.longer_than.Given as goal
 
 abbrev pub invariant-loop-value : goal.invariant-loop-value
-invariant-loop-value l = (l.value-index ≤ length l.column) × (l.count ≤ l.value-index) × (l.count + longer l.shift (drop l.value-index l.column) ≡ longer l.shift l.column)
+invariant-loop-value l = (l.value-index ≤ length l.fn.column.values.now) × (l.count ≤ l.value-index) × (l.count + longer l.shift (drop l.value-index l.fn.column.values.now) ≡ longer l.shift l.fn.column.values.now)

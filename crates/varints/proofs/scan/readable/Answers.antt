@@ -5,5 +5,6 @@ use Rattle.varints.proofs.scan.readable.Goals as goal
 
 pub returns : goal.returns
 returns c e =
-    let a = c.args in
-    scanned a.chunk.now a.start (c.min-end.result - a.start) a.count (c.rows.ensures e)
+    let body = c.args.body in
+    let start = body.header.start in
+    scanned body.chunk.now start (c.min-end.result - start) body.header.count (c.rows.ensures e)

@@ -10,4 +10,4 @@ pub returns : goal.returns
 returns c =
     let low : Key c.args.self.low = search rules in
     let high : Key c.args.self.high = search rules in
-    c.required_width.ensures ∙ ap width (c.gap.ensures ∙ ap₂ gap (held c.args.self.low low) (held c.args.self.high high))
+    c.of.ensures ∙ ap width (c.gap.ensures ∙ ap₂ gap (held c.args.self.low low) (held c.args.self.high high))

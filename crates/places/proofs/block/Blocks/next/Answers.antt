@@ -1,21 +1,27 @@
 -- The next block of a packed body is unpacked, and the values after it are left (`Taking`).
+use mathlib.Core.Path.{refl}
 use Prim.Native.Nat.{◌+◌, ◌-◌}
 use native.Mathlib.Omega.{arith}
 use borrow.Author.Rules.{rules}
 use Rattle.format.proofs.Numbers.All.{Below, all-by}
 use Rattle.format.proofs.Codecs.Counts.{length-packed_values}
 use Rattle.places.specs.Blocks.{to_come}
-use Rattle.places.proofs.Taking.{none_left, rest-there, block-taken}
+use Rattle.places.proofs.Taking.{none_left, rest-there, block-taken, block-unpacked}
 use Rattle.places.proofs.block.Blocks.next.Goals as goal
 
 pub returns-then-self-eq0 : goal.returns-then-self-eq0
 unfolding to_come
 returns-then-self-eq0 c = none_left _ _ _ c.if-self-eq0.true
 
+pub unwrap-requires : goal.unwrap-requires
+unwrap-requires c =
+    let s = c.args.self.now in
+    block-unpacked s.chunk.now s.at s.width.bits s.left c.min-n.ensures refl s.few s.width.narrow s.there c.args.block.now c.told-block c.unpack.result c.unpack.ensures.0
+
 pub overflow_add-self : goal.overflow_add-self
 overflow_add-self c =
     let s = c.args.self.now in
-    let there = rest-there s.chunk.now s.at s.width s.left c.block_len-n.ensures c.packed_bytes.ensures s.few s.narrow s.there in
+    let there = rest-there s.chunk.now s.at s.width.bits s.left c.min-n.ensures c.packed_len.ensures s.few s.width.narrow s.there in
     search rules
 
 pub invariant_of-self : goal.invariant_of-self
@@ -24,8 +30,7 @@ invariant_of-self c =
     record {
       bytes = s.bytes;
       few = omega (arith, s.few);
-      narrow = s.narrow;
-      there = rest-there s.chunk.now s.at s.width s.left c.block_len-n.ensures c.packed_bytes.ensures s.few s.narrow s.there;
+      there = rest-there s.chunk.now s.at s.width.bits s.left c.min-n.ensures c.packed_len.ensures s.few s.width.narrow s.there;
     }
 
 pub returns : goal.returns
@@ -33,8 +38,8 @@ unfolding to_come
 returns c =
     let s = c.args.self.now in
     let bytes : Below 256 s.chunk.now = all-by s.chunk.now 0 λ i _. s.bytes i in (
-      omega (arith, c.block_len-n.ensures, c.if-self-eq0.false),
-      omega (arith, c.block_len-n.ensures),
-      omega (arith, length-packed_values s.chunk.now s.at s.width s.left, length-packed_values s.chunk.now (s.at + c.packed_bytes.result) s.width (s.left - c.block_len-n.result), c.block_len-n.ensures),
-      block-taken s.chunk.now s.at s.width s.left c.block_len-n.ensures c.packed_bytes.ensures s.few s.narrow s.there bytes c.args.block.now c.told-block c.unpack.ensures.1,
+      omega (arith, c.min-n.ensures, c.if-self-eq0.false),
+      omega (arith, c.min-n.ensures, length-packed_values s.chunk.now s.at s.width.bits s.left),
+      omega (arith, length-packed_values s.chunk.now s.at s.width.bits s.left, length-packed_values s.chunk.now (s.at + c.packed_len.result) s.width.bits (s.left - c.min-n.result), c.min-n.ensures),
+      block-taken s.chunk.now s.at s.width.bits s.left c.min-n.ensures c.packed_len.ensures s.few s.width.narrow s.there bytes c.args.block.now c.told-block c.unpack.ensures.1,
     )
