@@ -1,8 +1,9 @@
 /* Warpboulder: a proved codec for columns of signed 64-bit keys.
  *
  * Link with target/staticlib/libc_api.a, which `tools/library c_api` proves and writes (x86-64-v2 Linux). The library allocates
- * nothing, keeps no state and calls nothing but memset, so any number of threads may use it at once. A call may take up to 400 KiB of
- * stack: where a column of more than 384 keys is analysed or written as Dictionary, or a chunk is read, of any encoding.
+ * nothing, keeps no state and calls nothing but memset, so any number of threads may use it at once. A call takes up to 400 KiB of
+ * stack where a column of more than 384 keys is analysed or written as Dictionary, up to 200 KiB where a Dictionary chunk of more than
+ * 256 entries is read, and else up to 16 KiB.
  *
  * ANSWERS. A call that can refuse returns a number, a wb_refusal: WB_ACCEPTED, which is 0, or why it refused. Through its last
  * pointer it stores how many values or bytes it stored at the front of the buffer, or, where it refused, the refusal's offset.
