@@ -1,11 +1,10 @@
 // Buffers lent to the port: what they hold before a call, and whether they hold after it what a record tells, in front, and what they
 // held, behind.
-use crate::cursor::Cursor;
+use crate::fields::{after, byte_at, u64_at};
 use crate::made::{FNV_START, fnv};
-use anyhow::{Context, Result, ensure};
 use std::alloc::{AllocError, Global};
 
-// More keys than a column has, more bytes than its longest chunk.
+// More keys than a column has, more bytes than its longest chunk and than any file.
 pub(crate) const KEYS: usize = 20480;
 
 pub(crate) const BYTES: usize = 262144;
@@ -15,7 +14,8 @@ pub(crate) trait Element: Copy + PartialEq {
     // What it holds before a call.
     const OLD: Self;
 
-    fn read(record: &mut Cursor<'_>) -> Result<Self>;
+    // The element i places after `at` in a record.
+    fn of(record: &[u8], at: usize, i: usize) -> Self;
 
     // The checksum with its bytes added.
     fn add_to(self, sum: u64) -> u64;
@@ -24,8 +24,8 @@ pub(crate) trait Element: Copy + PartialEq {
 impl Element for u8 {
     const OLD: u8 = 0xa5;
 
-    fn read(record: &mut Cursor<'_>) -> Result<u8> {
-        record.read_u8()
+    fn of(record: &[u8], at: usize, i: usize) -> u8 {
+        byte_at(record, at, i)
     }
 
     fn add_to(self, sum: u64) -> u64 {
@@ -36,8 +36,8 @@ impl Element for u8 {
 impl Element for u64 {
     const OLD: u64 = 0x5a5a_5a5a_5a5a_5a5a;
 
-    fn read(record: &mut Cursor<'_>) -> Result<u64> {
-        record.read_u64()
+    fn of(record: &[u8], at: usize, i: usize) -> u64 {
+        u64_at(record, after(at, i.wrapping_mul(8)))
     }
 
     fn add_to(self, sum: u64) -> u64 {
@@ -48,8 +48,8 @@ impl Element for u64 {
 impl Element for i64 {
     const OLD: i64 = 0x5a5a_5a5a_5a5a_5a5a;
 
-    fn read(record: &mut Cursor<'_>) -> Result<i64> {
-        record.read_i64()
+    fn of(record: &[u8], at: usize, i: usize) -> i64 {
+        u64::of(record, at, i).cast_signed()
     }
 
     fn add_to(self, sum: u64) -> u64 {
@@ -71,64 +71,44 @@ pub(crate) fn begins<T: Element>(buffer: &[T], front: &[T]) -> bool {
     buffer.strip_prefix(front).is_some_and(are_old)
 }
 
-// The elements that a record has next.
-pub(crate) fn read_all<T: Element>(
-    record: &mut Cursor<'_>,
-    alloc: Global,
-    count: usize,
-) -> Result<Vec<T>> {
-    let mut elements = Vec::new(alloc);
-    for _ in 0..count {
-        elements.push(T::read(record)?)?;
+// Puts the elements that a record has from `at` on into a buffer, as many as it holds.
+pub(crate) fn load<T: Element>(buffer: &mut [T], record: &[u8], at: usize) {
+    for (i, element) in buffer.iter_mut().enumerate() {
+        *element = T::of(record, at, i);
     }
-    Ok(elements)
 }
 
 // Whether a record has the elements that it tells of, or their checksum.
-#[derive(Clone, Copy)]
+#[derive(Clone, Copy, PartialEq, Eq)]
 pub(crate) enum Form {
     Stored,
     Summed,
 }
 
-// What a record tells of a buffer's front.
-#[derive(Drop)]
-pub(crate) enum Told<T> {
-    Stored(Vec<T>),
-    Summed { count: usize, checksum: u64 },
+// Does the buffer begin with the n elements that a record tells at `at`, and is the rest as it was lent? Not, if a damaged record tells of
+// more than the buffer has.
+pub(crate) fn holds<T: Element>(
+    buffer: &[T],
+    record: &[u8],
+    form: Form,
+    at: usize,
+    n: usize,
+) -> bool {
+    let Some((front, rest)) = buffer.split_at_checked(n) else {
+        return false;
+    };
+    let is_told = match form {
+        Form::Stored => are_stored(front, record, at),
+        Form::Summed => front.iter().fold(FNV_START, |sum, x| x.add_to(sum)) == u64_at(record, at),
+    };
+    is_told && are_old(rest)
 }
 
-impl<T: Element> Told<T> {
-    // A count, and the elements or their checksum.
-    pub(crate) fn read(record: &mut Cursor<'_>, alloc: Global, form: Form) -> Result<Told<T>> {
-        let count = record.read_size()?;
-        match form {
-            Form::Stored => Ok(Told::Stored(read_all(record, alloc, count)?)),
-            Form::Summed => Ok(Told::Summed {
-                count,
-                checksum: record.read_u64()?,
-            }),
+fn are_stored<T: Element>(elements: &[T], record: &[u8], at: usize) -> bool {
+    for (i, element) in elements.iter().enumerate() {
+        if *element != T::of(record, at, i) {
+            return false;
         }
     }
-
-    pub(crate) fn count(&self) -> usize {
-        match self {
-            Told::Stored(elements) => elements.len(),
-            Told::Summed { count, .. } => *count,
-        }
-    }
-
-    // Does the buffer begin with what is told, and is the rest as it was lent?
-    pub(crate) fn holds(&self, buffer: &[T]) -> bool {
-        match self {
-            Told::Stored(elements) => begins(buffer, elements),
-            Told::Summed { count, checksum } => {
-                let Some((front, rest)) = buffer.split_at_checked(*count) else {
-                    return false;
-                };
-                let sum = front.iter().fold(FNV_START, |sum, x| x.add_to(sum));
-                sum == *checksum && are_old(rest)
-            }
-        }
-    }
+    true
 }

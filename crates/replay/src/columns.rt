@@ -1,99 +1,86 @@
-// The original Rust's answers on columns, replayed: data/columns.bin. docs/ORACLE.md says what a record of each kind holds. Of a
-// record's keys each question is then asked by a module of its own: what is found in the column, what is planned, and what is written.
-use crate::buffers::{Form, KEYS, Told};
-use crate::cursor::Cursor;
+// The original Rust's answers on columns, replayed: data/columns.bin. docs/ORACLE.md says what a record of each kind holds. The keys
+// of a record, which are stored or described, go into one buffer, of which each question is then asked by a module of its own: what
+// is found in the column, what is planned, and what is written.
+ghost use Rattle.std.specs.Prelude.{◌≤◌};
+
+use crate::buffers::{Element, Form, KEYS, load};
+use crate::fields::{after, size_at, u8_at};
 use crate::formula::Formula;
-use crate::planned::Plan;
 use crate::tally::{Question, Tally};
 use crate::{analysed, planned, written};
-use anyhow::{Result, bail, ensure};
-use format::limits::MAX_DICTIONARY_CARDINALITY;
-use format::{Cardinality, IntegerStats, SizeEstimates};
-use std::alloc::Global;
 
-// What a record tells of a column.
-#[derive(Drop)]
-pub(crate) struct Column {
-    pub(crate) stats: IntegerStats,
-    // The bits of this number.
-    pub(crate) run_density: u64,
-    pub(crate) estimates: SizeEstimates,
-    pub(crate) plans: Vec<Plan>,
-    pub(crate) keys: Vec<i64>,
-    // In the order of the ids.
-    pub(crate) chunks: Vec<Told<u8>>,
-    // None, if they are too many.
-    pub(crate) distinct: Told<i64>,
-}
+pub(crate) const QUESTIONS: [Question; 6] = [
+    Question::StoredColumn,
+    Question::DescribedColumn,
+    Question::NoKeysWritten,
+    Question::Written,
+    Question::TooManyDistinct,
+    Question::Planned,
+];
 
-pub(crate) fn check(
-    kind: u8,
-    record: Cursor<'_>,
-    alloc: Global,
-    tally: &mut Tally,
-) -> Result<Question> {
-    let (form, question) = match kind {
-        1 => (Form::Stored, Question::StoredColumn),
-        2 => (Form::Summed, Question::DescribedColumn),
-        3 => return written::no_keys(record, alloc),
-        _ => bail!("its kind is {kind}"),
-    };
-    let column = Column::read(record, alloc, form)?;
-    let scratch = analysed::check(&column, alloc)?;
-    planned::check(&column, &scratch, alloc, tally)?;
-    written::check(&column, alloc, tally)?;
-    Ok(question)
-}
-
-impl Column {
-    fn read(mut record: Cursor<'_>, alloc: Global, form: Form) -> Result<Column> {
-        let r = &mut record;
-        let stats = analysed::read_stats(r)?;
-        ensure!(stats.count <= KEYS, "{} keys", stats.count);
-        let run_density = r.read_u64()?;
-        let estimates = analysed::read_estimates(r)?;
-        let plans = planned::read_plans(r, alloc)?;
-        let described = match form {
-            Form::Stored => None,
-            Form::Summed => Some(Formula::read(r)?.keys(alloc, stats.count)?),
-        };
-        let mut chunks = Vec::new(alloc);
-        for _ in 0..7 {
-            chunks.push(Told::read(r, alloc, form)?)?;
-        }
-        let distinct = Told::read(r, alloc, form)?;
-        record.end()?;
-        let keys = match described {
-            Some(keys) => keys,
-            None => keys_of(chunks.first(), alloc)?,
-        };
-        ensure!(keys.len() == stats.count, "{} keys", keys.len());
-        Ok(Column {
-            stats,
-            run_density,
-            estimates,
-            plans,
-            keys,
-            chunks,
-            distinct,
-        })
-    }
-
-    // How many distinct values the scratch's front gets.
-    pub(crate) fn stored(&self) -> usize {
-        match self.stats.cardinality {
-            Cardinality::Exact(count) => count,
-            Cardinality::AtLeast(_) => MAX_DICTIONARY_CARDINALITY,
-        }
+pub(crate) fn holds(kind: u8, record: &[u8], tally: &mut Tally) -> Option<Question> {
+    match kind {
+        1 => column_holds(record, Form::Stored, tally).then_some(Question::StoredColumn),
+        2 => column_holds(record, Form::Summed, tally).then_some(Question::DescribedColumn),
+        3 => written::none_holds(record).then_some(Question::NoKeysWritten),
+        _ => None,
     }
 }
 
-// The keys of a Plain chunk. Its header, before them, has at most five bytes.
-fn keys_of(plain: Option<&Told<u8>>, alloc: Global) -> Result<Vec<i64>> {
-    let Some(Told::Stored(chunk)) = plain else {
-        bail!("the Plain chunk is not stored");
+// A column and its chunks, stored; or a column by its formula, and its chunks by their lengths and checksums.
+fn column_holds(r: &[u8], form: Form, tally: &mut Tally) -> bool {
+    let mut keys = [i64::OLD; KEYS];
+    let Some(column) = keys.get_mut(..size_at(r, 0)) else {
+        return false;
     };
-    let (_, words) = chunk.as_rchunks::<8>();
-    let keys = words.iter().map(|word| i64::from_le_bytes(*word));
-    Ok(keys.collect(alloc)?)
+    fill(column, r, form);
+    let mut scratch = [i64::OLD; KEYS];
+    is_whole(r, form)
+        & analysed::holds(r, form, column, &mut scratch)
+        & planned::hold(r, column, &scratch, tally)
+        & written::hold(r, form, column, tally)
+}
+
+// Puts the record's keys into a buffer. Stored, they are the end of the first chunk, Plain.
+fn fill(column: &mut [i64], r: &[u8], form: Form) {
+    match form {
+        Form::Stored => {
+            let end = chunk_at(r, form, 2);
+            load(column, r, end.wrapping_sub(8 * size_at(r, 0)));
+        }
+        Form::Summed => Formula::at(r, after_plans(r)).fill(column),
+    }
+}
+
+// Does the record end with its distinct values, or their checksum?
+fn is_whole(r: &[u8], form: Form) -> bool {
+    let distinct = chunk_at(r, form, 8);
+    let length = match form {
+        Form::Stored => 4 + 8 * size_at(r, distinct),
+        Form::Summed => 12,
+    };
+    r.len() == after(distinct, length)
+}
+
+// The place of a chunk's length, before the chunk or its checksum; for the id 8, of the number of distinct values, before these or
+// their checksum.
+pub(crate) fn chunk_at(r: &[u8], form: Form, id: u8) -> usize {
+    let first = after_plans(r);
+    match form {
+        Form::Stored => {
+            let mut at = first;
+            for _ in 1..id {
+                at = after(at, 4 + size_at(r, at));
+            }
+            at
+        }
+        Form::Summed => first + 68 + 12 * usize::from(id),
+    }
+}
+
+// The place after the statistics, the estimates and the plans: of the first stored chunk, or of the formula.
+fn after_plans(r: &[u8]) -> usize
+    ensures { result ≤ 5230 }
+{
+    130 + 20 * usize::from(u8_at(r, 129))
 }

@@ -1,10 +1,6 @@
 // The keys of a described column, by the formula that docs/ORACLE.md has ("columns.bin", kind 2).
-ghost use Rattle.std.specs.Prelude.{◌<◌};
-
-use crate::cursor::Cursor;
+use crate::fields::{after, u64_at};
 use crate::made::next_state;
-use anyhow::{Result, ensure};
-use std::alloc::Global;
 
 // The formula's ten numbers, as they stand in a record.
 #[derive(Clone, Copy)]
@@ -19,63 +15,51 @@ pub(crate) struct Formula {
     modulus: u64,
     rare: u64,
     other: u64,
-    ghost every_is_positive: { 0 < every },
-    ghost wrap_is_positive: { 0 < wrap },
-    ghost shift_is_small: { shift < 64 },
-    ghost modulus_is_positive: { 0 < modulus },
-    ghost rare_is_positive: { 0 < rare },
 }
 
 impl Formula {
-    pub(crate) fn read(record: &mut Cursor<'_>) -> Result<Formula> {
-        let start = record.read_u64()?;
-        let step = record.read_u64()?;
-        let every = record.read_u64()?;
-        let factor = record.read_u64()?;
-        let wrap = record.read_u64()?;
-        let seed = record.read_u64()?;
-        let shift = record.read_u64()?;
-        let modulus = record.read_u64()?;
-        let rare = record.read_u64()?;
-        let other = record.read_u64()?;
-        ensure!(
-            0 < every && 0 < wrap && 0 < modulus && 0 < rare,
-            "a divisor is 0"
-        );
-        ensure!(shift < 64, "the shift is {shift}");
-        Ok(Formula {
-            start,
-            step,
-            every,
-            factor,
-            wrap,
-            seed,
-            shift,
-            modulus,
-            rare,
-            other,
-        })
-    }
-
-    // So many keys.
-    pub(crate) fn keys(&self, alloc: Global, count: usize) -> Result<Vec<i64>> {
-        let mut keys = Vec::new(alloc);
-        let mut state = self.seed;
-        for i in 0..u64::try_from(count)? {
-            state = next_state(state);
-            keys.push(self.key(i, state).cast_signed())?;
+    pub(crate) fn at(record: &[u8], at: usize) -> Formula {
+        Formula {
+            start: u64_at(record, at),
+            step: u64_at(record, after(at, 8)),
+            every: u64_at(record, after(at, 16)),
+            factor: u64_at(record, after(at, 24)),
+            wrap: u64_at(record, after(at, 32)),
+            seed: u64_at(record, after(at, 40)),
+            shift: u64_at(record, after(at, 48)),
+            modulus: u64_at(record, after(at, 56)),
+            rare: u64_at(record, after(at, 64)),
+            other: u64_at(record, after(at, 72)),
         }
-        Ok(keys)
     }
 
-    fn key(&self, i: u64, state: u64) -> u64 {
-        if i % self.rare == self.rare - 1 {
+    // Puts the keys of the formula into a buffer, as many as it holds.
+    pub(crate) fn fill(self, keys: &mut [i64]) {
+        let mut state = self.seed;
+        for (i, key) in keys.iter_mut().enumerate() {
+            state = next_state(state);
+            *key = self.key(i as u64, state).cast_signed();
+        }
+    }
+
+    // By a number that no record has, a divisor of 0 or a shift above 63, comes 0.
+    fn key(self, i: u64, state: u64) -> u64 {
+        if remainder(i, self.rare).wrapping_add(1) == self.rare {
             return self.other;
         }
-        let level = (i / self.every).wrapping_mul(self.factor) % self.wrap;
-        let noise = (state >> self.shift) % self.modulus;
+        let level = i.checked_div(self.every).unwrap_or(0);
+        let level = remainder(level.wrapping_mul(self.factor), self.wrap);
+        let noise = if self.shift > 63 {
+            0
+        } else {
+            state >> self.shift
+        };
         self.start
             .wrapping_add(self.step.wrapping_mul(level))
-            .wrapping_add(noise)
+            .wrapping_add(remainder(noise, self.modulus))
     }
+}
+
+fn remainder(a: u64, b: u64) -> u64 {
+    a.checked_rem(b).unwrap_or(0)
 }

@@ -1,85 +1,83 @@
 // The original Rust's answers on numbers, varints and packing, replayed: data/leaves.bin. docs/ORACLE.md says what a record of
 // each kind holds.
-use crate::cursor::Cursor;
+use crate::fields::{accepted, after, u8_at, u16_at, u64_at};
 use crate::packing;
 use crate::tally::Question;
-use anyhow::{Result, bail, ensure};
 use format::Refusal;
-use std::alloc::Global;
 
-pub(crate) fn check(kind: u8, record: Cursor<'_>, alloc: Global) -> Result<Question> {
+pub(crate) const QUESTIONS: [Question; 6] = [
+    Question::Number,
+    Question::VarintRead,
+    Question::Packing,
+    Question::Unpacking,
+    Question::PackedLength,
+    Question::PackingOfMany,
+];
+
+pub(crate) fn holds(kind: u8, record: &[u8]) -> Option<Question> {
     match kind {
-        1 => number(record),
-        2 => varint_read(record),
-        3 => packing::pack(record, alloc),
-        4 => packing::unpack(record, alloc),
-        5 => packing::length(record),
-        6 => packing::many(record, alloc),
-        _ => bail!("its kind is {kind}"),
+        1 => number_holds(record).then_some(Question::Number),
+        2 => reading_holds(record).then_some(Question::VarintRead),
+        3 => packing::pack_holds(record).then_some(Question::Packing),
+        4 => packing::unpack_holds(record).then_some(Question::Unpacking),
+        5 => packing::length_holds(record).then_some(Question::PackedLength),
+        6 => packing::many_hold(record).then_some(Question::PackingOfMany),
+        _ => None,
     }
 }
 
 // A number's ZigZag both ways, its width, its length and bytes as a varint, unsigned and signed.
-fn number(mut record: Cursor<'_>) -> Result<Question> {
-    let x = record.read_u64()?;
+fn number_holds(r: &[u8]) -> bool {
+    let x = u64_at(r, 0);
     let key = x.cast_signed();
-    ensure!(
-        number::zigzag_encode(key) == record.read_u64()?,
-        "zigzag_encode"
-    );
-    ensure!(
-        number::zigzag_decode(x) == record.read_i64()?,
-        "zigzag_decode"
-    );
-    ensure!(
-        number::required_width(x) == u32::from(record.read_u8()?),
-        "required_width"
-    );
-    let length = varint::uvarint_len(x);
-    varint_written(&mut record, length, |out| varint::write_uvarint(x, out))?;
-    let length = varint::varint_len(key);
-    varint_written(&mut record, length, |out| varint::write_varint(key, out))?;
-    record.end()?;
-    Ok(Question::Number)
+    let mut out = [0; 10];
+    let answer = varint::write_uvarint(x, &mut out);
+    let is_written = written_holds(answer, varint::uvarint_len(x), &out, r, 25);
+    let mut out = [0; 10];
+    let answer = varint::write_varint(key, &mut out);
+    r.len() == 47
+        && u64_at(r, 8) == number::zigzag_encode(key)
+        && u64_at(r, 16) == number::zigzag_decode(x).cast_unsigned()
+        && u32::from(u8_at(r, 24)) == number::required_width(x)
+        && is_written
+        && written_holds(answer, varint::varint_len(key), &out, r, 36)
 }
 
-// The record has the length next, and ten bytes to which this is written.
-fn varint_written<F: FnOnce(&mut [u8]) -> Result<usize, Refusal>>(
-    record: &mut Cursor<'_>,
+// Has the record this length at `at`, and behind it ten bytes to which this was written?
+fn written_holds(
+    answer: Result<usize, Refusal>,
     length: usize,
-    write: F,
-) -> Result<()>
-    requires { F.IsAlwaysCallable write }
-{
-    ensure!(
-        length == usize::from(record.read_u8()?),
-        "a varint's length"
-    );
-    let mut out = [0; 10];
-    ensure!(write(&mut out) == Ok(length), "writing a varint");
-    ensure!(out.as_slice() == record.read_bytes(10)?, "a varint's bytes");
-    Ok(())
+    out: &[u8; 10],
+    r: &[u8],
+    at: usize,
+) -> bool {
+    usize::from(u8_at(r, at)) == length
+        && accepted(answer, length)
+        && r.get(after(at, 1)..)
+            .is_some_and(|rest| rest.starts_with(out))
 }
 
 // Reading at a place, unsigned and signed.
-fn varint_read(mut record: Cursor<'_>) -> Result<Question> {
-    let at = record.read_place()?;
-    let refusal = record.read_refusal()?;
-    let value = record.read_u64()?;
-    let key = record.read_i64()?;
-    let next = record.read_place()?;
-    let length = usize::from(record.read_u16()?);
-    let bytes = record.read_bytes(length)?;
-    record.end()?;
-    // Of a refused reading the value and the next place are stored as 0.
-    let read = varint::read_uvarint(bytes, at).map(|read| (read.value, read.next));
-    ensure!(read.err() == refusal, "read_uvarint's refusal");
-    ensure!(
-        read.unwrap_or((0, 0)) == (value, next),
-        "read_uvarint's value"
-    );
-    let read = varint::read_varint(bytes, at).map(|read| (read.value, read.next));
-    ensure!(read.err() == refusal, "read_varint's refusal");
-    ensure!(read.unwrap_or((0, 0)) == (key, next), "read_varint's value");
-    Ok(Question::VarintRead)
+fn reading_holds(r: &[u8]) -> bool {
+    let Some(bytes) = r.get(44..) else {
+        return false;
+    };
+    let place = u64_at(r, 0) as usize;
+    let unsigned = varint::read_uvarint(bytes, place).map(|read| (read.value, read.next));
+    let signed = varint::read_varint(bytes, place).map(|read| (read.value, read.next));
+    bytes.len() == usize::from(u16_at(r, 42))
+        && read_holds(unsigned, 18, r)
+        && read_holds(signed.map(|(key, next)| (key.cast_unsigned(), next)), 26, r)
+}
+
+// Is this what the record tells: the value at a place of its own, and the next place; or the refusal?
+fn read_holds(answer: Result<(u64, usize), Refusal>, field: usize, r: &[u8]) -> bool {
+    match answer {
+        Ok((value, next)) => {
+            u8_at(r, 8) == 0 && u64_at(r, field) == value && u64_at(r, 34) == next as u64
+        }
+        Err(Refusal { kind, offset }) => {
+            u32::from(u8_at(r, 8)) == kind.number() && u64_at(r, 10) == offset as u64
+        }
+    }
 }

@@ -1,6 +1,4 @@
 // Values made from a seed, and checksums, as docs/ORACLE.md has them ("States", "Checksum").
-use anyhow::{Result, ensure};
-use std::alloc::Global;
 
 // More values than a record has.
 pub(crate) const VALUES: usize = 1024;
@@ -11,15 +9,14 @@ pub(crate) fn next_state(state: u64) -> u64 {
         .wrapping_add(1442695040888963407)
 }
 
-pub(crate) fn values(alloc: Global, seed: u64, count: usize) -> Result<Vec<u64>> {
-    ensure!(count <= VALUES, "{count} values are made");
-    let mut values = Vec::new(alloc);
+pub(crate) fn values(seed: u64) -> [u64; VALUES] {
+    let mut values = [0; VALUES];
     let mut state = seed;
-    for _ in 0..count {
+    for value in values.iter_mut() {
         state = next_state(state);
-        values.push(state ^ (state >> 33))?;
+        *value = state ^ (state >> 33);
     }
-    Ok(values)
+    values
 }
 
 // FNV-1a, of no bytes.

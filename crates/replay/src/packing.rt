@@ -1,70 +1,91 @@
 // The original Rust's answers on packing, in data/leaves.bin.
-use crate::buffers::{BYTES, Form, Told, lend, read_all};
-use crate::cursor::Cursor;
-use crate::made::{VALUES, values};
-use crate::tally::Question;
-use anyhow::{Result, ensure};
-use std::alloc::Global;
+use crate::buffers::{BYTES, Element, Form, holds, load};
+use crate::fields::{accepted, after, answer_is, size_at, u8_at, u32_at, u64_at};
+use crate::made;
+use crate::made::VALUES;
+use format::Refusal;
 
-// Packing values, which may be wider than the width.
-pub(crate) fn pack(mut record: Cursor<'_>, alloc: Global) -> Result<Question> {
-    let width = record.read_u32()?;
-    let refusal = record.read_refusal()?;
-    let count = record.read_size()?;
-    let values: Vec<u64> = read_all(&mut record, alloc, count)?;
-    let told = Told::read(&mut record, alloc, Form::Stored)?;
-    record.end()?;
-    let mut out = lend(alloc, BYTES)?;
-    let answer = bitpack::pack(&values, width, &mut out);
-    ensure!(answer == refusal.map_or(Ok(told.count()), Err), "pack");
-    ensure!(told.holds(&out), "the packed bytes");
-    Ok(Question::Packing)
+// The answer of packing the first n of these values; none, if a damaged record tells of more.
+fn pack_front(
+    values: &[u64],
+    n: usize,
+    width: u32,
+    out: &mut [u8],
+) -> Option<Result<usize, Refusal>> {
+    let front = values.get(..n)?;
+    Some(bitpack::pack(front, width, out))
+}
+
+// Packing values, which may be wider than the width. Where the Rust holds no offset, the file and document 01 have 0.
+pub(crate) fn pack_holds(r: &[u8]) -> bool {
+    let mut values = [u64::OLD; VALUES];
+    load(&mut values, r, 18);
+    let n = size_at(r, 14);
+    let mut out = [u8::OLD; BYTES];
+    let answer = pack_front(&values, n, u32_at(r, 0), &mut out);
+    let at = 18 + 8 * n;
+    let length = size_at(r, at);
+    r.len() == after(at, 4 + length)
+        && answer.is_some_and(|answer| answer_is(
+            answer,
+            u32::from(u8_at(r, 4)),
+            u64_at(r, 6),
+            length,
+        ))
+        && holds(&out, r, Form::Stored, after(at, 4), length)
 }
 
 // Unpacking a body, which may be longer than needed.
-pub(crate) fn unpack(mut record: Cursor<'_>, alloc: Global) -> Result<Question> {
-    let width = record.read_u32()?;
-    let count = record.read_size()?;
-    let refusal = record.read_refusal()?;
-    let length = record.read_size()?;
-    let body = record.read_bytes(length)?;
-    let told = Told::read(&mut record, alloc, Form::Stored)?;
-    record.end()?;
-    let mut out = lend(alloc, VALUES)?;
-    let answer = bitpack::unpack(body, width, count, &mut out);
-    ensure!(answer == refusal.map_or(Ok(count), Err), "unpack");
-    ensure!(told.holds(&out), "the values");
-    Ok(Question::Unpacking)
+pub(crate) fn unpack_holds(r: &[u8]) -> bool {
+    let length = size_at(r, 18);
+    let Some(body) = r.get(22..22 + length) else {
+        return false;
+    };
+    let at = 22 + length;
+    let n = size_at(r, at);
+    r.len() == after(at, 4 + 8 * n)
+        && unpacking_holds(
+            body,
+            r,
+            u32::from(u8_at(r, 8)),
+            u64_at(r, 10),
+            Form::Stored,
+            after(at, 4),
+            n,
+        )
+}
+
+// Unpacks a body, by the width and the count that the record begins with: is the answer this one, and are the values the n that the
+// record tells at `at`?
+fn unpacking_holds(
+    body: &[u8],
+    r: &[u8],
+    number: u32,
+    offset: u64,
+    form: Form,
+    at: usize,
+    n: usize,
+) -> bool {
+    let count = size_at(r, 4);
+    let mut out = [u64::OLD; VALUES];
+    let answer = bitpack::unpack(body, u32_at(r, 0), count, &mut out);
+    answer_is(answer, number, offset, count) && holds(&out, r, form, at, n)
 }
 
 // A packed length.
-pub(crate) fn length(mut record: Cursor<'_>) -> Result<Question> {
-    let count = record.read_size()?;
-    let width = record.read_u32()?;
-    let length = record.read_size()?;
-    record.end()?;
-    ensure!(
-        bitpack::packed_len(count, width) == Ok(length),
-        "packed_len"
-    );
-    Ok(Question::PackedLength)
+pub(crate) fn length_holds(r: &[u8]) -> bool {
+    let answer = bitpack::packed_len(size_at(r, 0), u32_at(r, 4));
+    r.len() == 12 && accepted(answer, size_at(r, 8))
 }
 
 // Packing many values, then unpacking those bytes; both by their checksums.
-pub(crate) fn many(mut record: Cursor<'_>, alloc: Global) -> Result<Question> {
-    let width = record.read_u32()?;
-    let count = record.read_size()?;
-    let values = values(alloc, record.read_u64()?, count)?;
-    let packed = Told::read(&mut record, alloc, Form::Summed)?;
-    let checksum = record.read_u64()?;
-    record.end()?;
-    let mut out = lend(alloc, BYTES)?;
-    let answer = bitpack::pack(&values, width, &mut out);
-    ensure!(answer == Ok(packed.count()), "pack");
-    ensure!(packed.holds(&out), "the packed bytes");
-    let mut back = lend(alloc, VALUES)?;
-    let answer = bitpack::unpack(&out, width, count, &mut back);
-    ensure!(answer == Ok(count), "unpack");
-    ensure!(Told::Summed { count, checksum }.holds(&back), "the values");
-    Ok(Question::PackingOfMany)
+pub(crate) fn many_hold(r: &[u8]) -> bool {
+    let n = size_at(r, 4);
+    let mut out = [u8::OLD; BYTES];
+    let answer = pack_front(&made::values(u64_at(r, 8)), n, u32_at(r, 0), &mut out);
+    let length = size_at(r, 16);
+    r.len() == 36
+        && answer.is_some_and(|answer| accepted(answer, length))
+        && holds(&out, r, Form::Summed, 20, length)
+        && unpacking_holds(&out, r, 0, 0, Form::Summed, 28, n)
 }

@@ -1,79 +1,54 @@
 // The port's plans of a column, at the levels 0 to 9, against those of a record of data/columns.bin.
-use crate::buffers::{KEYS, lend};
-use crate::columns::Column;
-use crate::cursor::Cursor;
+use crate::analysed::{estimates_hold, stored};
+use crate::buffers::{Element, KEYS};
+use crate::fields::{after, has_bits, size_at, u8_at, u16_at, u64_at};
 use crate::tally::{Question, Tally};
-use anyhow::{Context, Result, ensure};
-use format::{Encoding, EncodingPlan, PlanReason};
-use std::alloc::Global;
+use format::EncodingPlan;
 
-// A plan that a record tells.
-#[derive(Clone, Copy)]
-pub(crate) struct Plan {
-    // A bit for each level at which this is the plan.
-    levels: u16,
-    encoding: Encoding,
-    reason: PlanReason,
-    estimated_bytes: usize,
-    plain_bytes: usize,
-    // The bits of this number.
-    estimated_ratio: u64,
-}
-
-// In the order of their numbers in a record.
-const REASONS: [PlanReason; 4] = [
-    PlanReason::Empty,
-    PlanReason::CompressionDisabled,
-    PlanReason::SmallestEstimate,
-    PlanReason::GainBelowThreshold,
-];
-
-pub(crate) fn read_plans(record: &mut Cursor<'_>, alloc: Global) -> Result<Vec<Plan>> {
-    let mut plans = Vec::new(alloc);
-    for _ in 0..record.read_u8()? {
-        plans.push(Plan {
-            levels: record.read_u16()?,
-            encoding: Encoding::try_from(u32::from(record.read_u8()?))?,
-            reason: record.read_variant("reason", &REASONS)?,
-            estimated_bytes: record.read_size()?,
-            plain_bytes: record.read_size()?,
-            estimated_ratio: record.read_u64()?,
-        })?;
-    }
-    Ok(plans)
-}
-
-// The ten plans; each leaves the scratch as the call for statistics left it.
-pub(crate) fn check(column: &Column, left: &[i64], alloc: Global, tally: &mut Tally) -> Result<()> {
+// The ten plans; each leaves the scratch as the call for statistics left it. The first that does not hold ends them.
+pub(crate) fn hold(r: &[u8], column: &[i64], left: &[i64], tally: &mut Tally) -> bool {
     for level in 0..10 {
-        let mut plans = column.plans.iter();
-        let told = plans
-            .find(|plan| (plan.levels >> level) & 1 == 1)
-            .context("a level has no plan")?;
-        let mut scratch = lend(alloc, KEYS)?;
-        let found = plan::analyze(&column.keys, level, &mut scratch)?;
-        ensure!(found.stored == column.stored(), "a plan's distinct values");
-        ensure!(
-            is_told(found.plan, told, column),
-            "the plan at level {level}"
-        );
-        ensure!(scratch.as_slice() == left, "a plan's scratch");
-        tally.add(Question::Planned)?;
+        if !plan_holds(r, column, level, left) {
+            return false;
+        }
+        tally.add(Question::Planned);
     }
-    Ok(())
+    true
 }
 
-fn is_told(plan: EncodingPlan, told: &Plan, column: &Column) -> bool {
-    plan.encoding == told.encoding
-        && plan.reason == told.reason
-        && plan.estimated_bytes == told.estimated_bytes
-        && plan.plain_bytes == told.plain_bytes
-        && has_bits(plan.estimated_ratio, told.estimated_ratio)
-        && has_bits(plan.run_density, column.run_density)
-        && plan.estimates == column.estimates
+fn plan_holds(r: &[u8], column: &[i64], level: u32, left: &[i64]) -> bool {
+    let mut scratch = [i64::OLD; KEYS];
+    let Ok(found) = plan::analyze(column, level, &mut scratch) else {
+        return false;
+    };
+    found.stored == stored(r)
+        && plan_is(found.plan, r, plan_at(r, level), level)
+        && estimates_hold(r, found.plan.estimates)
+        && scratch.as_slice() == left
 }
 
-// Has the number these 64 bits? What is not a number has none that could be asked.
-fn has_bits(x: f64, bits: u64) -> bool {
-    !x.is_nan() && x.to_bits() == bits
+// The place of the plan at a level: of the first that has the level's bit, or of the last.
+fn plan_at(r: &[u8], level: u32) -> usize {
+    let mut at = 130;
+    for _ in 1..u8_at(r, 129) {
+        if has_level(r, at, level) {
+            return at;
+        }
+        at = after(at, 20);
+    }
+    at
+}
+
+fn has_level(r: &[u8], at: usize, level: u32) -> bool {
+    level < 10 && (u16_at(r, at) >> level) & 1 == 1
+}
+
+fn plan_is(plan: EncodingPlan, r: &[u8], at: usize, level: u32) -> bool {
+    has_level(r, at, level)
+        && plan.encoding.id() == u8_at(r, after(at, 2))
+        && plan.reason as u64 == u64::from(u8_at(r, after(at, 3)))
+        && plan.estimated_bytes == size_at(r, after(at, 4))
+        && plan.plain_bytes == size_at(r, after(at, 8))
+        && has_bits(plan.estimated_ratio, u64_at(r, after(at, 12)))
+        && has_bits(plan.run_density, u64_at(r, 86))
 }

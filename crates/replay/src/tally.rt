@@ -1,10 +1,8 @@
 // How many answers hold, of each kind.
-use std::alloc::{AllocError, Global};
-use std::collections::BTreeMap;
 use std::{fmt, io};
 
-// What is counted, in the order of the print.
-#[derive(Clone, Copy, Debug, PartialEq, Eq, PartialOrd, Ord)]
+// What is counted, file by file, in the order of the print.
+#[derive(Clone, Copy, Debug, PartialEq, Eq)]
 pub(crate) enum Question {
     Number,
     VarintRead,
@@ -24,6 +22,8 @@ pub(crate) enum Question {
     Refused,
     Large,
 }
+
+const QUESTIONS: usize = 17;
 
 impl fmt::Display for Question {
     fn fmt<W: fmt::Write>(&self, f: &mut fmt::Formatter<W>) -> fmt::Result {
@@ -49,27 +49,29 @@ impl fmt::Display for Question {
     }
 }
 
-#[derive(Drop)]
+#[derive(Clone, Copy)]
 pub(crate) struct Tally {
-    held: BTreeMap<Question, u64>,
+    held: [u64; QUESTIONS],
 }
 
 impl Tally {
-    pub(crate) fn new(alloc: Global) -> Tally {
+    pub(crate) fn new() -> Tally {
         Tally {
-            held: BTreeMap::new(alloc),
+            held: [0; QUESTIONS],
         }
     }
 
     // One more holds.
-    pub(crate) fn add(&mut self, question: Question) -> Result<(), AllocError> {
-        let count = self.held.entry(question)?.or_insert(0);
-        *count = count.saturating_add(1);
-        Ok(())
+    pub(crate) fn add(&mut self, question: Question) {
+        if let Some(count) = self.held.get_mut(question as usize) {
+            *count = count.wrapping_add(1);
+        }
     }
 
-    pub(crate) fn print(&self, rt: &impl Print) -> io::Result<()> {
-        for (question, count) in self.held.iter() {
+    // A line for each of a file's questions, also where nothing holds.
+    pub(crate) fn print(&self, rt: &impl Print, questions: &[Question]) -> io::Result<()> {
+        for question in questions {
+            let count = self.held.get(*question as usize).copied().unwrap_or(0);
             println!(rt; "{question}: {count}")?;
         }
         Ok(())
