@@ -2,7 +2,6 @@
 // held, behind.
 use crate::fields::{after, byte_at, u64_at};
 use crate::made::{FNV_START, fnv};
-use std::alloc::{AllocError, Global};
 
 // More keys than a column has, more bytes than its longest chunk and than any file.
 pub(crate) const KEYS: usize = 20480;
@@ -55,10 +54,6 @@ impl Element for i64 {
     fn add_to(self, sum: u64) -> u64 {
         fnv(sum, &self.to_le_bytes())
     }
-}
-
-pub(crate) fn lend<T: Element>(alloc: Global, places: usize) -> Result<Vec<T>, AllocError> {
-    vec![in alloc; T::OLD; places]
 }
 
 // Are the elements as they were lent?

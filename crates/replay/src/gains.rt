@@ -3,15 +3,16 @@
 // small, so Varint is the best: 999 bytes and those of the last key's varint, 8 or 9.
 use crate::text::entry;
 use format::{Encoding, PlanReason};
-use std::alloc::{AllocError, Global};
 use std::io;
+
+const KEYS: usize = 132;
 
 const LEVEL: u32 = 6;
 
 // A plan's encoding, the reason for it, and its bytes.
 type Choice = (Encoding, PlanReason, usize);
 
-pub(crate) fn run(rt: &(impl Print + AllocGlobal)) -> io::Result<()> {
+pub(crate) fn run(rt: &impl Print) -> io::Result<()> {
     let kept = (Encoding::Varint, PlanReason::SmallestEstimate, 1007);
     gain(
         rt,
@@ -31,15 +32,9 @@ pub(crate) fn run(rt: &(impl Print + AllocGlobal)) -> io::Result<()> {
 }
 
 // The plan of the column with this last key, whose Varint chunk has `best` bytes.
-fn gain(
-    rt: &(impl Print + AllocGlobal),
-    what: &str,
-    last: i64,
-    best: usize,
-    choice: Choice,
-) -> io::Result<()> {
-    let column = column_with(rt.alloc(), last)?;
-    let mut scratch = vec![in rt.alloc(); 0; column.len()]?;
+fn gain(rt: &impl Print, what: &str, last: i64, best: usize, choice: Choice) -> io::Result<()> {
+    let column = column_with(last);
+    let mut scratch = [0; KEYS];
     let planned = plan::analyze(&column, LEVEL, &mut scratch).map(|found| found.plan);
     let is_right = planned.is_ok_and(|plan| {
         plan.plain_bytes == 1060
@@ -50,12 +45,12 @@ fn gain(
 }
 
 // From 2^62 up by 2^56, from -2^62 - 2^56 down by 2^56, from 0 up by 1, and the last.
-fn column_with(alloc: Global, last: i64) -> Result<Vec<i64>, AllocError> {
+fn column_with(last: i64) -> [i64; KEYS] {
     let rising = (64..112).map(|key: i64| key << 56);
     let falling = (-112..-64).rev().map(|key: i64| key << 56);
-    rising
-        .chain(falling)
-        .chain(0..35)
-        .chain([last])
-        .collect(alloc)
+    let mut keys = [last; KEYS];
+    for (slot, key) in keys.iter_mut().zip(rising.chain(falling).chain(0..35)) {
+        *slot = key;
+    }
+    keys
 }

@@ -3,6 +3,8 @@
 // holds to the file stdout, and the place of each record that does not.
 #![tactic(auto)]
 
+ghost use Rattle.std.specs.Prelude.{◌≤◌, length, IfOk};
+
 use buffers::BYTES;
 use fields::{after_header, first_record};
 use std::io::Read;
@@ -28,45 +30,39 @@ mod text;
 mod written;
 
 fn main(rt: HostRuntime) -> io::Result<()> {
-    let leaves = load(&rt, "leaves.bin")?;
-    replay(&rt, &leaves, &leaves::QUESTIONS, |kind, record, _| {
+    replay(&rt, "leaves.bin", &leaves::QUESTIONS, |kind, record, _| {
         leaves::holds(kind, record)
     })?;
-    let columns = load(&rt, "columns.bin")?;
-    replay(&rt, &columns, &columns::QUESTIONS, |kind, record, tally| {
-        columns::holds(kind, record, tally)
-    })?;
-    let chunks = load(&rt, "chunks.bin")?;
-    replay(&rt, &chunks, &chunks::QUESTIONS, |kind, record, tally| {
-        chunks::holds(kind, record, tally)
-    })?;
+    replay(
+        &rt,
+        "columns.bin",
+        &columns::QUESTIONS,
+        |kind, record, tally| { columns::holds(kind, record, tally) },
+    )?;
+    replay(
+        &rt,
+        "chunks.bin",
+        &chunks::QUESTIONS,
+        |kind, record, tally| { chunks::holds(kind, record, tally) },
+    )?;
     sheet::run(&rt)?;
     gains::run(&rt)?;
     refused::run(&rt)
 }
 
-// Reads a file, of which no more than the longest has. One that cannot be opened is told of, and is empty.
-fn load(rt: &(impl Files + Eprint + AllocGlobal), path: &str) -> io::Result<Vec<u8>> {
-    let mut bytes = Vec::new(rt.alloc());
-    match fs::open(rt, path) {
-        Ok(file) => {
-            file.take(BYTES as u64).read_to_end(&mut bytes)?;
-        }
-        Err(error) => eprintln!(rt; "{path}: {error}")?,
-    }
-    Ok(bytes)
-}
-
 // Asks every record of a file, by its kind, and prints for each question how many hold. A record that does not hold is named by its place
 // in the file, and so is what is no whole record.
 fn replay<F: Fn(u8, &[u8], &mut Tally) -> Option<Question>>(
-    rt: &impl Print,
-    file: &[u8],
+    rt: &(impl Files + Print + Eprint),
+    path: &str,
     questions: &[Question],
     holds: F,
 ) -> io::Result<()>
     requires { F.IsAlwaysCallable holds }
 {
+    let mut room = [0; BYTES];
+    let length = load(rt, path, &mut room)?;
+    let file = &room[..length];
     let mut tally = Tally::new();
     let mut rest = after_header(file);
     while let Some((kind, record, others)) = first_record(rest) {
@@ -80,6 +76,34 @@ fn replay<F: Fn(u8, &[u8], &mut Tally) -> Option<Question>>(
         does_not_hold(rt, file, rest)?;
     }
     tally.print(rt, questions)
+}
+
+// Reads a file and answers its length, of which no more than the room counts: 0, and says so, where it cannot be opened.
+fn load(rt: &(impl Files + Eprint), path: &str, room: &mut [u8]) -> io::Result<usize>
+    ensures { IfOk result (λ count. count ≤ length room.new) }
+{
+    match fs::open(rt, path) {
+        Ok(mut file) => read_full(&mut file, room),
+        Err(error) => {
+            eprintln!(rt; "{path}: {error}")?;
+            Ok(0)
+        }
+    }
+}
+
+// Reads until the room is full or the file has no more, and answers how many bytes.
+fn read_full(file: &mut impl Read, room: &mut [u8]) -> io::Result<usize>
+    ensures { IfOk result (λ count. count ≤ length room.new) }
+{
+    let mut done = 0;
+    while done < room.len() {
+        let count = file.read(&mut room[done..])?;
+        if count == 0 {
+            break;
+        }
+        done += count;
+    }
+    Ok(done)
 }
 
 fn does_not_hold(rt: &impl Print, file: &[u8], rest: &[u8]) -> io::Result<()> {

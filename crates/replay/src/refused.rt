@@ -1,21 +1,20 @@
 // Calls that document 01 refuses and no stored record makes, on scratch and levels. A line for each, as for the entries.
-use crate::buffers::{KEYS, are_old, lend};
+use crate::buffers::{Element, KEYS, are_old};
 use crate::text::entry;
 use format::limits::MAX_DICTIONARY_CARDINALITY;
 use format::{Encoding, EncodingPlan, IntegerStats, Kind};
 use rows::{EstimatesRow, PlanRow, StatsRow};
-use std::alloc::{AllocError, Global};
 use std::io;
 
-pub(crate) fn run(rt: &(impl Print + AllocGlobal)) -> io::Result<()> {
+pub(crate) fn run(rt: &impl Print) -> io::Result<()> {
     short_scratch(rt)?;
     one_too_many(rt)?;
     no_records(rt)
 }
 
 // A scratch of one place too few is left as it was.
-fn short_scratch(rt: &(impl Print + AllocGlobal)) -> io::Result<()> {
-    let mut scratch = lend(rt.alloc(), 2)?;
+fn short_scratch(rt: &impl Print) -> io::Result<()> {
+    let mut scratch = [i64::OLD; 2];
     let answer = integer::encode(Encoding::Dictionary, &[3, 1, 2], &mut scratch, &mut [0; 16]);
     entry(
         rt,
@@ -27,9 +26,9 @@ fn short_scratch(rt: &(impl Print + AllocGlobal)) -> io::Result<()> {
 
 // Of the keys 16,384 to 0, falling, the first 16,384 met are 16,384 to 1: the scratch has them rising, and then what it held. Statistics
 // of these keys are not refused, and leave the scratch the same.
-fn one_too_many(rt: &(impl Print + AllocGlobal)) -> io::Result<()> {
-    let column = falling(rt.alloc())?;
-    let mut scratch = lend(rt.alloc(), KEYS)?;
+fn one_too_many(rt: &impl Print) -> io::Result<()> {
+    let column = falling();
+    let mut scratch = [i64::OLD; KEYS];
     let answer = integer::encode(Encoding::Dictionary, &column, &mut scratch, &mut [0; 16]);
     entry(
         rt,
@@ -37,7 +36,7 @@ fn one_too_many(rt: &(impl Print + AllocGlobal)) -> io::Result<()> {
         answer,
         answer == Err(Kind::TooManyDistinct.at(0)) && rises(&scratch),
     )?;
-    let mut scratch = lend(rt.alloc(), KEYS)?;
+    let mut scratch = [i64::OLD; KEYS];
     let answer = stats::analyze_integers(&column, &mut scratch).map(|found| found.stored);
     entry(
         rt,
@@ -47,8 +46,12 @@ fn one_too_many(rt: &(impl Print + AllocGlobal)) -> io::Result<()> {
     )
 }
 
-fn falling(alloc: Global) -> Result<Vec<i64>, AllocError> {
-    (0..16385).rev().collect(alloc)
+fn falling() -> [i64; MAX_DICTIONARY_CARDINALITY + 1] {
+    let mut keys = [0; MAX_DICTIONARY_CARDINALITY + 1];
+    for (key, n) in keys.iter_mut().rev().zip(0..16385) {
+        *key = n;
+    }
+    keys
 }
 
 // Does the scratch begin with 1 to 16,384, and is the rest as it was lent?
@@ -95,8 +98,8 @@ const NO_PLAN: PlanRow = PlanRow {
 
 // A refused call has no record; the C interface then stores the default's row. The level is asked first: before the
 // scratch, which is too short as well.
-fn no_records(rt: &(impl Print + AllocGlobal)) -> io::Result<()> {
-    let mut scratch = lend(rt.alloc(), 2)?;
+fn no_records(rt: &impl Print) -> io::Result<()> {
+    let mut scratch = [i64::OLD; 2];
     let answer = stats::analyze_integers(&[3, 1, 2], &mut scratch).map(|found| found.stored);
     let has_no_stats = StatsRow::from(IntegerStats::default()) == NO_STATS;
     entry(

@@ -4,7 +4,7 @@ use crate::text::{Answer, Hex, Input, Numbers};
 use format::limits::MAX_CHUNK_ELEMENTS;
 use std::io;
 
-pub(crate) fn show(rt: &(impl Print + AllocGlobal)) -> io::Result<()> {
+pub(crate) fn show(rt: &impl Print) -> io::Result<()> {
     lengths(rt)?;
     packed(rt)?;
     unpacked(rt)?;
@@ -31,35 +31,29 @@ fn lengths(rt: &impl Print) -> io::Result<()> {
     Ok(())
 }
 
-fn packed(rt: &(impl Print + AllocGlobal)) -> io::Result<()> {
+fn packed(rt: &impl Print) -> io::Result<()> {
     println!(rt;
         "\nValues packed into bytes ee, and all bytes then (0 to 7 of width 3: Parquet; refusals: document 01)"
     )?;
     let rising = [0, 1, 2, 3, 4, 5, 6, 7];
-    pack(rt, &rising, 3, 4)?;
-    pack(rt, &rising, 3, 2)?;
-    pack(rt, &[9, 14], 3, 2)?;
-    pack(rt, &[1, 2, 3], 0, 2)?;
-    pack(rt, &[], 64, 2)?;
-    pack(rt, &[1], 64, 2)?;
-    pack(rt, &[8191, 4096], 13, 4)?;
-    pack(rt, &[1], 65, 4)?;
-    pack(rt, &[u64::MAX], 64, 9)?;
-    pack(rt, &[1, u64::MAX], 33, 9)
+    pack(rt, &rising, 3, &mut [0xee; 4])?;
+    pack(rt, &rising, 3, &mut [0xee; 2])?;
+    pack(rt, &[9, 14], 3, &mut [0xee; 2])?;
+    pack(rt, &[1, 2, 3], 0, &mut [0xee; 2])?;
+    pack(rt, &[], 64, &mut [0xee; 2])?;
+    pack(rt, &[1], 64, &mut [0xee; 2])?;
+    pack(rt, &[8191, 4096], 13, &mut [0xee; 4])?;
+    pack(rt, &[1], 65, &mut [0xee; 4])?;
+    pack(rt, &[u64::MAX], 64, &mut [0xee; 9])?;
+    pack(rt, &[1, u64::MAX], 33, &mut [0xee; 9])
 }
 
-fn pack(
-    rt: &(impl Print + AllocGlobal),
-    values: &[u64],
-    width: u32,
-    room: usize,
-) -> io::Result<()> {
-    let mut out = vec![in rt.alloc(); 0xee; room]?;
-    let answer = Answer(bitpack::pack(values, width, &mut out));
+fn pack(rt: &impl Print, values: &[u64], width: u32, out: &mut [u8]) -> io::Result<()> {
+    let answer = Answer(bitpack::pack(values, width, out));
     println!(rt;
         "values{} of width {width}:{answer}:{}",
         Numbers(values),
-        Hex(&out)
+        Hex(out)
     )
 }
 

@@ -17,50 +17,49 @@ impl fmt::Display for Step {
     }
 }
 
-pub(crate) fn show(rt: &(impl Print + AllocGlobal)) -> io::Result<()> {
+pub(crate) fn show(rt: &impl Print) -> io::Result<()> {
     println!(rt;
         "\nColumns planned, written in the encoding planned, and read back (document 01)"
     )?;
-    trip(rt, "0, at level 6", &[0], 6, 40)?;
-    trip(rt, "5 5 5 5, at level 6", &[5, 5, 5, 5], 6, 40)?;
-    trip(rt, "5 5 5 5, at level 0", &[5, 5, 5, 5], 0, 40)?;
+    trip(rt, "0, at level 6", &[0], 6, &mut [0; 40])?;
+    trip(rt, "5 5 5 5, at level 6", &[5, 5, 5, 5], 6, &mut [0; 40])?;
+    trip(rt, "5 5 5 5, at level 0", &[5, 5, 5, 5], 0, &mut [0; 40])?;
     let ends = [i64::MIN, i64::MAX];
     trip(
         rt,
         "the least and the greatest key, at level 4",
         &ends,
         4,
-        40,
+        &mut [0; 40],
     )?;
     trip(
         rt,
         "the least and the greatest key, at level 3",
         &ends,
         3,
-        40,
+        &mut [0; 40],
     )?;
-    trip(rt, "0, at level 10", &[0], 10, 40)?;
-    trip(rt, "1 2 3 4 5, at level 6", &[1, 2, 3, 4, 5], 6, 40)?;
+    trip(rt, "0, at level 10", &[0], 10, &mut [0; 40])?;
+    trip(
+        rt,
+        "1 2 3 4 5, at level 6",
+        &[1, 2, 3, 4, 5],
+        6,
+        &mut [0; 40],
+    )?;
     trip(
         rt,
         "5 5 5 5, at level 6, to five bytes",
         &[5, 5, 5, 5],
         6,
-        5,
+        &mut [0; 5],
     )
 }
 
-fn trip(
-    rt: &(impl Print + AllocGlobal),
-    what: &str,
-    column: &[i64],
-    level: u32,
-    room: usize,
-) -> io::Result<()> {
+fn trip(rt: &impl Print, what: &str, column: &[i64], level: u32, out: &mut [u8]) -> io::Result<()> {
     let mut scratch = [77; 5];
-    let mut out = vec![in rt.alloc(); 0; room]?;
     let mut back = [77; 4];
-    let trip = round_trip::round_trip(column, level, true, true, &mut scratch, &mut out, &mut back);
+    let trip = round_trip::round_trip(column, level, true, true, &mut scratch, out, &mut back);
     print!(rt; "{what}:")?;
     match trip.planned {
         Ok(planned) => {
@@ -77,7 +76,7 @@ fn trip(
     print!(rt;
         "; written:{}{}",
         Step(trip.written),
-        Hex(out.get(..stored).unwrap_or(&out))
+        Hex(out.get(..stored).unwrap_or(out))
     )?;
     println!(rt; "; read:{}:{}", Step(trip.read), Numbers(&back))
 }
