@@ -30,11 +30,19 @@ pub fn with_varint(before: Extent, read: Uvarint) -> Extent
 pub fn settle_uvarints(chunk: &[u8], before: Extent, n: usize) -> Result<Extent, Refusal>
     ensures { outcome_of result ≡ validate_uvarints chunk.now before.end n before.padded }
 {
-    let mut read = before;
+    let mut end = before.end;
+    let mut padded = before.padded;
+    // By its fields. Tried: `with_varint` of it, with `?`; handed on whole it goes through memory, and a varint took 19 cycles in place of 6.
     for _ in 0..n {
-        read = with_varint(read, varint::read_uvarint(chunk, read.end)?);
+        match varint::read_uvarint(chunk, end) {
+            Ok(read) => {
+                padded = first_padded(padded, end, read.unpadded);
+                end = read.next;
+            }
+            Err(refusal) => return Err(refusal),
+        }
     }
-    Ok(read)
+    Ok(Extent { end, padded })
 }
 
 // A width byte after what was read before, and a packed body of `count` values after it. Question 21 comes before there is a width byte, 10,

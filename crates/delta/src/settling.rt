@@ -5,7 +5,7 @@ ghost use Rattle.format.specs.Delta.{block_count, validate_blocks, validate_delt
 ghost use Rattle.format.specs.Encodings.{max_chunk_elements};
 ghost use Rattle.delta.specs.There.{block_extent};
 
-use codec::body::{settle_packed, with_varint};
+use codec::body::{first_padded, settle_packed, with_varint};
 use codec::chunk::Body;
 use format::limits::MAX_DELTA_BLOCK_SIZE;
 use format::{Extent, Kind, Refusal};
@@ -15,8 +15,17 @@ use format::{Extent, Kind, Refusal};
 fn settle_block(chunk: &[u8], before: Extent, n: usize) -> Result<Extent, Refusal>
     ensures { outcome_of result ≡ block_extent chunk.now before.end n before.padded }
 {
-    let least = varint::read_uvarint(chunk, before.end)?;
-    settle_packed(chunk, with_varint(before, least), n)
+    // By its fields, as in `settle_uvarints`.
+    match varint::read_uvarint(chunk, before.end) {
+        Ok(least) => {
+            let read = Extent {
+                end: least.next,
+                padded: first_padded(before.padded, before.end, least.unpadded),
+            };
+            settle_packed(chunk, read, n)
+        }
+        Err(refusal) => Err(refusal),
+    }
 }
 
 // Blocks of `deltas` deltas in all, after what was read before.

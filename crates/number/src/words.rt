@@ -19,15 +19,15 @@ pub fn byte_at(bytes: &[u8], at: usize) -> u8
     bytes.get(at).copied().unwrap_or(0)
 }
 
-// The word at any place: bytes past the end count 0. Fewer than eight are taken one by one. Tried: a copy of them, which is a call, and up to
-// 1.7 times as long.
+// The word at any place: bytes past the end count 0. Whether eight are there is asked of the place; tried: of what is behind it, which took
+// 5 instructions more a value. Fewer than eight are taken one by one; tried: a copy of them, which is a call, and up to 1.7 times as long.
 pub fn load_padded(bytes: &[u8], at: usize) -> u64
     ensures { result ≡ of_digits 256 (take 8 (drop at bytes.now)) }
 {
-    let rest = &bytes[at.min(bytes.len())..];
-    if rest.len() >= 8 {
-        return load(rest, 0);
+    if at < bytes.len().saturating_sub(7) {
+        return load(bytes, at);
     }
+    let rest = &bytes[at.min(bytes.len())..];
     u64::from_le_bytes([
         byte_at(rest, 0),
         byte_at(rest, 1),

@@ -4,7 +4,7 @@ ghost use Rattle.std.specs.Prelude.{◌≡◌};
 ghost use Rattle.format.specs.Answers.{outcome_of};
 ghost use Rattle.format.specs.Varint.{read_uvarint, validate_uvarints};
 
-use codec::body::settle_uvarints;
+use codec::body::with_varint;
 use format::{Extent, Refusal, Uvarint};
 use varint::find::uvarint_end;
 
@@ -26,7 +26,7 @@ pub(crate) fn read_length(chunk: &[u8], at: usize) -> Result<Uvarint, Refusal>
 
 // The questions of a run's key, of which only the extent counts. Mostly it is there and unpadded: it has an end, and one byte or a last
 // one that is not 0.
-#[tactic(auto, using(crate::proofs::Keys::end_range, crate::proofs::Keys::tight_last, crate::proofs::Keys::tight_one))]
+#[tactic(auto, using(crate::proofs::Keys::end_range, crate::proofs::Keys::tight_last, crate::proofs::Keys::tight_one), unfolding(format::specs::Varint::validate_uvarints))]
 pub(crate) fn settle_key(chunk: &[u8], before: Extent) -> Result<Extent, Refusal>
     ensures { outcome_of result ≡ validate_uvarints chunk.now before.end 1 before.padded }
 {
@@ -35,5 +35,6 @@ pub(crate) fn settle_key(chunk: &[u8], before: Extent) -> Result<Extent, Refusal
             return Ok(Extent { end, ..before });
         }
     }
-    settle_uvarints(chunk, before, 1)
+    let read = varint::read_uvarint(chunk, before.end)?;
+    Ok(with_varint(before, read))
 }
