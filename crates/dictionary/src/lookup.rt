@@ -17,7 +17,7 @@ use codec::chunk::Body;
 use format::limits::MAX_DICTIONARY_CARDINALITY;
 use places::block::Blocks;
 use places::unpacked::fill_by;
-use varint::find::find_any;
+use varint::checked::find_any;
 
 // Entry i: the first by itself, any other by its gap from the last.
 #[tactic(auto, unfolding(crate::specs::Reading::entry_at))]

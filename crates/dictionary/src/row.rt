@@ -3,7 +3,7 @@ ghost use Rattle.std.specs.Prelude.{◌≡◌};
 ghost use Rattle.format.specs.Varint.{after_uvarints};
 ghost use Rattle.dictionary.specs.Reading.{AllRead, all_read-prop};
 
-use varint::find::find_any;
+use varint::checked::find_any;
 
 // So many varints of a chunk, none of which is refused. The first begins at `start`.
 #[derive(Clone, Copy)]

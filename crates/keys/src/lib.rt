@@ -9,7 +9,8 @@ ghost use Rattle.varint.specs.Finding.{found_in};
 ghost use Rattle.keys.specs.Rows.{times_after, filled_from};
 
 use format::limits::MAX_CHUNK_ELEMENTS;
-use varint::find::{Found, find_any, find_uvarint};
+use varint::checked::{find_any, find_uvarint};
+use varint::find::Found;
 
 // A length: mostly of one byte. Tried: `find_any` alone, which asks the same, but is called and not inlined; runs of one value took 14
 // instructions more each, and 1.3 times as long.

@@ -9,7 +9,7 @@ ghost use Rattle.format.specs.declared.encoding.Encoding.TheVariants as Encoding
 use codec::chunk::{Body, Codec, Encoder};
 use format::{Column, Encoding, Extent, Refusal};
 use keys::fill_keys;
-use varint::find::find_any;
+use varint::checked::find_any;
 
 pub(crate) mod near;
 pub(crate) mod reading;

@@ -6,7 +6,7 @@ ghost use Rattle.format.specs.Varint.{read_uvarint, validate_uvarints};
 
 use codec::body::with_varint;
 use format::{Extent, Refusal, Uvarint};
-use varint::find::uvarint_end;
+use varint::checked::uvarint_end;
 
 // A run's length. Tried: `varint::read_uvarint` alone, which tells a byte below 128 first too, and is inlined with more; runs of one value
 // took 7 instructions more each, a fifth longer.

@@ -3,12 +3,12 @@
 use Rattle.std.proofs.Common.{Option, Some, None, ◌≡◌, ℕ, suc, ◌+◌, ◌-◌, ◌*◌, ◌%◌, ◌<◌, ◌≤◌, Bool, true, false, ltb, leb, List, length, get_or, drop, sym, refl, ap₂, ◌∙◌, arith, ltb-false, ltb-true, leb-false, leb-true, le-leb}
 use borrow.Author.Tests.{lt-leb}
 use mir.Val.{bool_byte}
-use Rattle.std.specs.Option.{UnwrapsOrElse}
+use Rattle.std.specs.Option.{UnwrapsOrElse, unwrap_or}
 use Rattle.format.specs.Outcome.{Outcome, ok, refused}
 use Rattle.format.specs.Varint.{Uvarint, uvarint_end, read_uvarint, uvarint_at}
 use Rattle.varint.specs.Reading.{Reading}
 use Rattle.varint.specs.declared.find.Found.{Found}
-use Rattle.varint.specs.Finding.{Walked, found_of, found_in, found_at, end_in}
+use Rattle.varint.specs.Finding.{Walked, found_of, found_in, found_at, end_of, end_in}
 use Rattle.varint.proofs.Reading.{was_read, summed, again, answer_none, answer_one, answer_last, answer_cut, answer_long, end_none, end-eleventh, end-last, end_more}
 
 -- whether a byte is the last
@@ -59,6 +59,15 @@ module _ (s : List ℕ) (at : ℕ) where
     where
       go : (o : Outcome Uvarint) → read_uvarint s at ≡ o → found ≡ found_of o → there ≡ found_at s at
       go (refused number offset) p h = let z = rw h at u in rw p (ap₂ (λ (v n : ℕ). record { value = v; next = n }) z.0 z.1)
+      go (ok v) p h = rw p (rw h at u)
+
+  -- and the place alone, 0 where it is refused
+  pub end_or_zero : {end : Option ℕ} {next : ℕ} → end ≡ end_in s at → next ≡ unwrap_or end 0 → next ≡ (uvarint_at s at).next
+  unfolding uvarint_at
+  end_or_zero {end} {next} e u = go (read_uvarint s at) refl e
+    where
+      go : (o : Outcome Uvarint) → read_uvarint s at ≡ o → end ≡ end_of o → next ≡ (uvarint_at s at).next
+      go (refused number offset) p h = rw p (rw h at u)
       go (ok v) p h = rw p (rw h at u)
 
   -- ---- the place after it, by the walk to the end

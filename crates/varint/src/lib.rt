@@ -12,6 +12,7 @@ use crate::long::read_rest;
 use crate::words::group;
 use format::{Kind, Refusal, Uvarint, Varint};
 
+pub mod checked;
 pub mod find;
 pub(crate) mod long;
 pub(crate) mod words;

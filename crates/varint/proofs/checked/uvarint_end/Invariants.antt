@@ -1,7 +1,7 @@
--- `varint::find::uvarint_end` meets its contract: where ten bytes are there, none of the first k is the last before turn k; elsewhere the varint is read.
+-- `varint::checked::uvarint_end` meets its contract: where ten bytes are there, none of the first k is the last before turn k; elsewhere the varint is read.
 use Rattle.std.proofs.Common.{◌+◌, ◌-◌, ◌≤◌, length}
 use Rattle.varint.specs.Finding.{Walked}
-use Rattle.varint.proofs.find.uvarint_end.Given as goal
+use Rattle.varint.proofs.checked.uvarint_end.Given as goal
 
 abbrev pub invariant-loop-k : goal.invariant-loop-k
 invariant-loop-k l = (l.k ≤ 8) × (l.at + 10 ≤ length l.bytes) × Walked l.bytes l.at l.k

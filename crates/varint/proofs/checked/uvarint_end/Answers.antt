@@ -1,7 +1,7 @@
--- `varint::find::uvarint_end` meets its contract: where ten bytes are there, none of the first k is the last before turn k; elsewhere the varint is read.
+-- `varint::checked::uvarint_end` meets its contract: where ten bytes are there, none of the first k is the last before turn k; elsewhere the varint is read.
 use Rattle.std.proofs.Common.{arith}
 use Rattle.varint.proofs.Finding.{walked_none, walked_more, walked_last}
-use Rattle.varint.proofs.find.uvarint_end.Goals as goal
+use Rattle.varint.proofs.checked.uvarint_end.Goals as goal
 
 pub loop-k-init : goal.loop-k-init
 loop-k-init c = (omega arith, omega arith, walked_none _ _ (omega arith))
