@@ -1,6 +1,7 @@
 -- `varint::find::find_uvarint` meets its contract: what is found, and 0 and 0 where nothing is.
+use borrow.Author.Rules.{rules}
 use Rattle.varint.proofs.Finding.{found_or_default}
 use Rattle.varint.proofs.find.find_uvarint.Goals as goal
 
 pub returns : goal.returns
-returns c = found_or_default _ _ c.find_uvarint.ensures c.unwrap_or_default.ensures
+returns c = found_or_default _ _ c.find_uvarint.ensures (search rules)
