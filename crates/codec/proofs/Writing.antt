@@ -21,13 +21,13 @@ use Rattle.format.proofs.Codecs.Encodings.{encoding_of-id, id-within}
 use Rattle.format.proofs.Codecs.Header.{length-header_bytes}
 use Rattle.format.proofs.Lengths.Exact.{length-chunk}
 use Rattle.format.proofs.Numbers.Stores.{sets-append, sets-stored}
-use Rattle.places.specs.Places.{fitting, laid, laid_end}
+use Rattle.places.specs.Places.{fitting, laid, laid_place}
 use Rattle.places.proofs.Placing.{put_some}
 
 -- header and body, stored one after the other
 module _ (e : Encoding) (column : List ℤ) (output : List ℕ) {needed : ℕ} (measured : needed ≡ header_len (length column) + length (body_of e column))
     (there : needed ≤ length output) {end : Option ℕ} {begun : List ℕ}
-    (header : (end ≡ laid_end (fitting (header_bytes (id_of e) (length column)) (length output)) 0)
+    (header : (end ≡ laid_place (fitting (header_bytes (id_of e) (length column)) (length output)) 0)
     × (begun ≡ laid (fitting (header_bytes (id_of e) (length column)) (length output)) 0 output))
   where
     abbrev front : List ℕ

@@ -14,7 +14,8 @@ ghost use Rattle.codec.specs.Lacking.{Lacking};
 ghost use Rattle.codec.specs.Valid.{Valid};
 
 use crate::body::settle;
-use crate::header::{header_len, put_header, read_header};
+use crate::checked::put_header;
+use crate::header::{header_len, read_header};
 use format::{Column, Encoding, Extent, Header, Kind, Refusal};
 
 // A chunk whose header was read: what is left to be asked and read is its body.

@@ -7,9 +7,9 @@ ghost use Rattle.format.specs.Parts.{peeked};
 ghost use Rattle.places.specs.Places.{fitting, laid, laid_end};
 
 use crate::body::first_padded;
+use crate::checked;
 use format::limits::{CODEC_VERSION, MAX_CHUNK_ELEMENTS};
 use format::{Encoding, Header, Kind, Refusal};
-use places::put_uvarint;
 
 // How many bytes a header has.
 pub fn header_len(count: usize) -> usize
@@ -18,17 +18,13 @@ pub fn header_len(count: usize) -> usize
     2 + varint::uvarint_len(count as u64)
 }
 
-// Stores a header at the front of `out` and answers where it ends; where it does not fit, it stores nothing and answers none.
-pub fn put_header(encoding: Encoding, count: usize, out: &mut [u8]) -> Option<usize>
+// Stores a header at the front of `out` and answers where it ends; where it does not fit, nothing, and 0. That of `checked` tells the two
+// apart.
+pub fn put_header(encoding: Encoding, count: usize, out: &mut [u8]) -> usize
     ensures value { result ≡ laid_end (fitting (header_bytes (id_of encoding) count) (length out.old)) 0 }
     ensures out_after { out.new ≡ laid (fitting (header_bytes (id_of encoding) count) (length out.old)) 0 out.old }
 {
-    if out.len() < header_len(count) {
-        return None;
-    }
-    out[0] = encoding.id();
-    out[1] = CODEC_VERSION;
-    put_uvarint(count as u64, out, 2)
+    checked::put_header(encoding, count, out).unwrap_or(0)
 }
 
 // The encoding that a chunk's first byte says: the first questions of a reading that names none.

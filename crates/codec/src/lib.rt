@@ -1,5 +1,6 @@
 // What the seven codecs share (the Rust's codec.rs): in `chunk` the traits that each implements and the whole calls that are made of
-// them, in `header` a chunk's first bytes, in `body` the questions that more than one body is asked; and here an encoding's rank.
+// them, in `header` a chunk's first bytes, which `checked` stores too, in `body` the questions that more than one body is asked; and here
+// an encoding's rank.
 #![tactic(auto)]
 
 ghost use Rattle.std.specs.Prelude.{◌≡◌};
@@ -8,6 +9,7 @@ ghost use Rattle.format.specs.Encodings.{decode_cost_rank};
 use format::Encoding;
 
 pub mod body;
+pub mod checked;
 pub mod chunk;
 pub mod header;
 

@@ -24,7 +24,7 @@ use Rattle.format.proofs.Numbers.Extremes.{largest-gaps}
 use Rattle.format.proofs.Numbers.Stores.{Storing, storing-none, storing-one, storing-room}
 use Rattle.format.proofs.Numbers.Widths.{width-le}
 use Rattle.number.proofs.Signed.{held}
-use Rattle.places.specs.Places.{laid, laid_end}
+use Rattle.places.specs.Places.{laid, laid_place}
 use Rattle.places.proofs.Placing.{PutUvarint, storing_uvarint, storing_uvarint_some, storing_packed, storing_packed_some}
 use Rattle.delta.specs.Written.{blocks_of}
 use Rattle.delta.proofs.Held.{low_held}
@@ -65,7 +65,7 @@ module _ (window : List ℤ) (output : List ℕ) (at : ℕ) (room : at + length 
 
       -- the width byte, and the packed offsets
       module _ {w : ℕ} (wide : w ≡ block_width window) (values : List ℕ) (same : values ≡ block_offsets window) (short : length window ≤ 129) {last : List ℕ} {stop : Option ℕ}
-          (packs : (stop ≡ laid_end (pack_outcome values w (length (set begun next w) - (next + 1))) (next + 1))
+          (packs : (stop ≡ laid_place (pack_outcome values w (length (set begun next w) - (next + 1))) (next + 1))
           × (last ≡ laid (pack_outcome values w (length (set begun next w) - (next + 1))) (next + 1) (set begun next w)))
         where
           widened : Storing (block_bytes (deltas window)) output at (packed w values) (set begun next w) (next + 1)

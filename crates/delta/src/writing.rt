@@ -13,7 +13,7 @@ use bitpack::width::Width;
 use format::Column;
 use format::limits::DELTA_BLOCK_SIZE;
 use places::block::BLOCK;
-use places::{put_packed, put_uvarint, put_varint};
+use places::checked::{put_packed, put_uvarint, put_varint};
 
 // The least and the greatest of some deltas.
 #[derive(Clone, Copy)]

@@ -8,8 +8,9 @@ ghost use Rattle.format.specs.declared.encoding.Encoding.TheVariants as Encoding
 ghost use Rattle.std.specs.Prelude.{length, ◌≡◌};
 
 use crate::guess::Entries;
+use codec::checked::put_header;
 use codec::chunk::{Body, Codec};
-use codec::header::{header_len, put_header};
+use codec::header::header_len;
 use entries::body_len;
 use format::{Column, Encoding, Extent, Kind, Refusal};
 

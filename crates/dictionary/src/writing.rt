@@ -12,8 +12,8 @@ use bitpack::width::Width;
 use entries::code_width;
 use entries::gap::Gaps;
 use format::Column;
+use places::checked::put_uvarint;
 use places::packed::pack_by;
-use places::put_uvarint;
 
 // Stores the entries from `start` on, and returns the place after them.
 #[tactic(auto, using(crate::proofs::Entries::putting_begun, crate::proofs::Entries::putting_done))]

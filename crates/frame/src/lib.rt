@@ -11,9 +11,9 @@ use codec::body::settle_packed;
 use codec::chunk::{Body, Codec, Encoder, lacking_for};
 use format::{Column, Encoding, Extent, Header, Kind, Refusal};
 use places::block::Blocks;
+use places::checked::put_key;
 use places::load::key_at;
 use places::packed::pack_by;
-use places::put_key;
 use places::unpacked::fill_by;
 use writing::Fit;
 

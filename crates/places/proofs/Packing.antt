@@ -16,7 +16,7 @@ use Rattle.format.specs.Standalone.{pack_outcome}
 use Rattle.format.proofs.Numbers.Packing.{packed_len-zero, packed_len-most, length-packed}
 use Rattle.format.proofs.Numbers.Stores.{sets-stored, Storing, storing-done}
 use Rattle.bitpack.proofs.PackingLaws.{packed_none, packed-append}
-use Rattle.places.specs.Places.{laid, laid_end}
+use Rattle.places.specs.Places.{laid, laid_place}
 use Rattle.places.proofs.Placing.{storing_packed, storing_packed_some}
 
 -- the packed bytes of a column are few
@@ -42,7 +42,7 @@ packed-part w part later e = go (dec_le 128 (length part))
 module _ (f : ℤ → ℕ) (w : ℕ) (column rest : List ℤ) {l out : List ℕ} {from at : ℕ} (s : Storing (packed w (map f column)) l from (packed w (map f rest)) out at) where
   module _ (part later : List ℤ) (e : rest ≡ part ++ later) (n : length part ≡ min 128 (length rest)) (narrow : w ≤ 64) (h : from + packed_len (length column) w ≤ length l)
       {values next : List ℕ} {end : Option ℕ} (ev : values ≡ map f part)
-      (put : (end ≡ laid_end (pack_outcome values w (length out - at)) at) × (next ≡ laid (pack_outcome values w (length out - at)) at out))
+      (put : (end ≡ laid_place (pack_outcome values w (length out - at)) at) × (next ≡ laid (pack_outcome values w (length out - at)) at out))
     where
       room : from + length (packed w (map f column)) ≤ length l
       room = omega (arith, h, length-packed w (map f column) ∙ ap (λ (k : ℕ). packed_len k w) (length-map column f))

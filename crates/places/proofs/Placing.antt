@@ -36,7 +36,7 @@ use Rattle.format.proofs.Numbers.Stores.{Storing, storing-part, storing-room}
 use Rattle.format.proofs.Codecs.Header.{length-header_bytes}
 use Rattle.varint.proofs.Bytes.{uvarint_len_one, uvarint_len-more, uvarint_bytes-one, uvarint_bytes-more}
 use Rattle.bitpack.proofs.Parts.{part-rest, part-back}
-use Rattle.places.specs.Places.{fitting, laid, laid_end}
+use Rattle.places.specs.Places.{fitting, laid, laid_place}
 
 bytes_of : (value : ℤ) → digits 256 8 (residue value) ≡ key_bytes value
 unfolding key_bytes
@@ -83,19 +83,19 @@ module _ (at : ℕ) (output : List ℕ) {front : ℕ} (e : front ≡ min at (len
 
 -- the place after it, by the answer of the call
 module _ (o : Outcome (List ℕ)) (at : ℕ) (r : Result ℕ Refusal) (told : outcome_of r ≡ stored_answer o) where
-  pub end_none : None ≡ result_ok r → None ≡ laid_end o at
+  pub end_none : None ≡ result_ok r → None ≡ laid_place o at
   end_none e = go r o told e
     where
-      go : (r : Result ℕ Refusal) (o : Outcome (List ℕ)) → outcome_of r ≡ stored_answer o → None ≡ result_ok r → None ≡ laid_end o at
+      go : (r : Result ℕ Refusal) (o : Outcome (List ℕ)) → outcome_of r ≡ stored_answer o → None ≡ result_ok r → None ≡ laid_place o at
       go (Ok n) o t f = absurd (none-some _ f)
       go (Err refusal) (refused number offset) t f = refl
       go (Err refusal) (ok bytes) t f = let z : ◌≡◌ {A = ℕ} 0 1 = cc in absurd (omega arith)
 
   -- with no more bytes than there is space for
-  pub end_some : {space n : ℕ} → Fitting o space → Some n ≡ result_ok r → (n ≤ space) × (Some (at + n) ≡ laid_end o at)
+  pub end_some : {space n : ℕ} → Fitting o space → Some n ≡ result_ok r → (n ≤ space) × (Some (at + n) ≡ laid_place o at)
   end_some {space} {n} fits e = go r o told fits e
     where
-      go : (r : Result ℕ Refusal) (o : Outcome (List ℕ)) → outcome_of r ≡ stored_answer o → Fitting o space → Some n ≡ result_ok r → (n ≤ space) × (Some (at + n) ≡ laid_end o at)
+      go : (r : Result ℕ Refusal) (o : Outcome (List ℕ)) → outcome_of r ≡ stored_answer o → Fitting o space → Some n ≡ result_ok r → (n ≤ space) × (Some (at + n) ≡ laid_place o at)
       go (Ok m) (refused number offset) t f g = let z : ◌≡◌ {A = ℕ} 0 1 = cc in absurd (omega arith)
       go (Ok m) (ok bytes) t f g = let same : n ≡ length bytes = cc in (omega (arith, f bytes refl, same), ap (λ (k : ℕ). Some (at + k)) same)
       go (Err refusal) o t f g = absurd (none-some _ (sym g))
@@ -128,7 +128,7 @@ packed-fits values w space = go (leb (length values) max_chunk_elements) (leb w 
 
 -- what a call that stores a varint at a place says of the output and of the place after it
 abbrev pub PutUvarint : ℕ → List ℕ → ℕ → List ℕ → Option ℕ → Type 0
-PutUvarint x output at out end = (end ≡ laid_end (uvarint_write_outcome x (length output - at)) at) × (out ≡ laid (uvarint_write_outcome x (length output - at)) at output)
+PutUvarint x output at out end = (end ≡ laid_place (uvarint_write_outcome x (length output - at)) at) × (out ≡ laid (uvarint_write_outcome x (length output - at)) at output)
 
 -- what was stored is there, and so is the place after it
 abbrev pub Put : List ℕ → List ℕ → ℕ → List ℕ → Option ℕ → Type 0
@@ -150,18 +150,18 @@ module _ (at : ℕ) (output : List ℕ) where
       rw (le-leb (length values) max_chunk_elements few, le-leb w 64 narrow, le-leb (packed_len (length values) w) (length output - at) (omega arith))
 
   module _ {out : List ℕ} {end : Option ℕ} where
-    put_laid : (o : Outcome (List ℕ)) (bytes : List ℕ) → o ≡ ok bytes → (end ≡ laid_end o at) × (out ≡ laid o at output) → Put bytes output at out end
+    put_laid : (o : Outcome (List ℕ)) (bytes : List ℕ) → o ≡ ok bytes → (end ≡ laid_place o at) × (out ≡ laid o at output) → Put bytes output at out end
     put_laid o bytes there put = rw there at put
 
     pub uvarint_put : (x : ℕ) → at + length (uvarint_bytes x) ≤ length output → PutUvarint x output at out end → Put (uvarint_bytes x) output at out end
     uvarint_put x h put = put_laid (uvarint_write_outcome x (length output - at)) (uvarint_bytes x) (uvarint_laid x h) put
 
     pub bytes_put : (bytes : List ℕ) → at + length bytes ≤ length output
-        → (end ≡ laid_end (fitting bytes (length output - at)) at) × (out ≡ laid (fitting bytes (length output - at)) at output) → Put bytes output at out end
+        → (end ≡ laid_place (fitting bytes (length output - at)) at) × (out ≡ laid (fitting bytes (length output - at)) at output) → Put bytes output at out end
     bytes_put bytes h put = put_laid (fitting bytes (length output - at)) bytes (bytes_laid bytes h) put
 
     pub packed_put : (values : List ℕ) (w : ℕ) → length values ≤ max_chunk_elements → w ≤ 64 → at + packed_len (length values) w ≤ length output
-        → (end ≡ laid_end (pack_outcome values w (length output - at)) at) × (out ≡ laid (pack_outcome values w (length output - at)) at output)
+        → (end ≡ laid_place (pack_outcome values w (length output - at)) at) × (out ≡ laid (pack_outcome values w (length output - at)) at output)
         → Put (packed w values) output at out end
     packed_put values w few narrow h put = put_laid (pack_outcome values w (length output - at)) (packed w values) (packed_laid values w few narrow h) put
 
@@ -192,7 +192,7 @@ module _ {whole l : List ℕ} {from : ℕ} {rest out : List ℕ} {at : ℕ} (s :
     storing_uvarint found = storing_put (uvarint_bytes x) later e uvarint_there found
 
   module _ (values : List ℕ) (w : ℕ) (later : List ℕ) {next : List ℕ} {end : Option ℕ} (e : rest ≡ packed w values ++ later) (few : length values ≤ max_chunk_elements) (narrow : w ≤ 64)
-      (put : (end ≡ laid_end (pack_outcome values w (length out - at)) at) × (next ≡ laid (pack_outcome values w (length out - at)) at out))
+      (put : (end ≡ laid_place (pack_outcome values w (length out - at)) at) × (next ≡ laid (pack_outcome values w (length out - at)) at out))
     where
       packed_there : Put (packed w values) out at next end
       packed_there = packed_put at out values w few narrow (omega (arith, storing_fits (packed w values) later e, length-packed w values)) put
@@ -211,19 +211,19 @@ unfolding uvarint_write_outcome
 uvarint_none x at output past = rw (lt-leb (uvarint_len x) (length output - at) (omega (arith, uvarint_len-pos x))) (refl, refl)
 
 module _ (x at : ℕ) (output : List ℕ) (inside : at < length output) where
-  pub one-stored : x < 128 → (Some (at + 1) ≡ laid_end (uvarint_write_outcome x (length output - at)) at) × (set output at x ≡ laid (uvarint_write_outcome x (length output - at)) at output)
+  pub one-stored : x < 128 → (Some (at + 1) ≡ laid_place (uvarint_write_outcome x (length output - at)) at) × (set output at x ≡ laid (uvarint_write_outcome x (length output - at)) at output)
   one-stored h = rw (uvarint_laid at output x (omega (arith, length-uvarint_bytes x, uvarint_len_one x h)), uvarint_bytes-one x h) (refl, refl)
 
   module _ (more : 128 ≤ x) (two : x < 16384) where
     long : uvarint_len x ≡ 2
     long = uvarint_len-more x more (omega arith) ∙ ap suc (uvarint_len_one (x / 128) (omega arith))
 
-    pub two-short : length output - at < 2 → (None ≡ laid_end (uvarint_write_outcome x (length output - at)) at) × (output ≡ laid (uvarint_write_outcome x (length output - at)) at output)
+    pub two-short : length output - at < 2 → (None ≡ laid_place (uvarint_write_outcome x (length output - at)) at) × (output ≡ laid (uvarint_write_outcome x (length output - at)) at output)
     unfolding uvarint_write_outcome
     two-short h = rw (lt-leb (uvarint_len x) (length output - at) (omega (arith, long))) (refl, refl)
 
     pub two-stored : 2 ≤ length output - at
-        → (Some (at + 2) ≡ laid_end (uvarint_write_outcome x (length output - at)) at)
+        → (Some (at + 2) ≡ laid_place (uvarint_write_outcome x (length output - at)) at)
         × (set (set output at (x % 128 + 128)) (at + 1) (x / 128) ≡ laid (uvarint_write_outcome x (length output - at)) at output)
     two-stored h =
         let bytes : uvarint_bytes x ≡ (x % 128 + 128) ∷ (x / 128) ∷ []
@@ -233,13 +233,13 @@ module _ (x at : ℕ) (output : List ℕ) (inside : at < length output) where
 -- ---- a key
 
 module _ (value : ℤ) (at : ℕ) (output : List ℕ) where
-  pub key-short : length output - at < 8 → (None ≡ laid_end (fitting (key_bytes value) (length output - at)) at)
+  pub key-short : length output - at < 8 → (None ≡ laid_place (fitting (key_bytes value) (length output - at)) at)
       × (output ≡ laid (fitting (key_bytes value) (length output - at)) at output)
   unfolding fitting
   key-short h = simp (lt-leb (length (key_bytes value)) (length output - at) (omega (arith, length-key_bytes value, h))) (refl, refl)
 
   pub key-stored : {out : List ℕ} → at ≤ length output → 8 ≤ length output - at → out ≡ sets output at (digits 256 8 (residue value))
-      → (Some (at + 8) ≡ laid_end (fitting (key_bytes value) (length output - at)) at) × (out ≡ laid (fitting (key_bytes value) (length output - at)) at output)
+      → (Some (at + 8) ≡ laid_place (fitting (key_bytes value) (length output - at)) at) × (out ≡ laid (fitting (key_bytes value) (length output - at)) at output)
   unfolding fitting
   key-stored inside room e =
       simp (le-leb (length (key_bytes value)) (length output - at) (omega (arith, length-key_bytes value, room)))
@@ -248,16 +248,16 @@ module _ (value : ℤ) (at : ℕ) (output : List ℕ) where
 -- ---- the header
 
 module _ (id count : ℕ) (output : List ℕ) where
-  pub header-short : length output < header_len count → (None ≡ laid_end (fitting (header_bytes id count) (length output)) 0)
+  pub header-short : length output < header_len count → (None ≡ laid_place (fitting (header_bytes id count) (length output)) 0)
       × (output ≡ laid (fitting (header_bytes id count) (length output)) 0 output)
   unfolding fitting
   header-short h = simp (lt-leb (length (header_bytes id count)) (length output) (omega (arith, length-header_bytes id count))) (refl, refl)
 
   -- id and version first, then the count's varint after them
   pub header-stored : {end : Option ℕ} {out : List ℕ} → header_len count ≤ length output
-      → (end ≡ laid_end (uvarint_write_outcome count (length (set (set output 0 id) 1 1) - 2)) 2)
+      → (end ≡ laid_place (uvarint_write_outcome count (length (set (set output 0 id) 1 1) - 2)) 2)
       × (out ≡ laid (uvarint_write_outcome count (length (set (set output 0 id) 1 1) - 2)) 2 (set (set output 0 id) 1 1))
-      → (end ≡ laid_end (fitting (header_bytes id count) (length output)) 0) × (out ≡ laid (fitting (header_bytes id count) (length output)) 0 output)
+      → (end ≡ laid_place (fitting (header_bytes id count) (length output)) 0) × (out ≡ laid (fitting (header_bytes id count) (length output)) 0 output)
   unfolding fitting header_bytes header_len
   header-stored {end} {out} h p =
       let long : length (set (set output 0 id) 1 1) ≡ length output = length-set (set output 0 id) 1 1 ∙ length-set output 0 id in

@@ -1,5 +1,4 @@
--- Storing at a place of the output: what is left of it, and the place after what was stored. What does not fit leaves the output as it was, and there is no such
--- place.
+-- Storing at a place of the output: what is left of it, and the place after what was stored. What does not fit leaves both as they were.
 use Rattle.std.specs.Prelude.{ℕ, ◌+◌, List, leb, length, Option, None, Some}
 use Rattle.std.proofs.lemmas.List.Edits.{sets}
 use Rattle.format.specs.Outcome.{Outcome, refused, ok, check, ◌>>=◌}
@@ -13,7 +12,12 @@ abbrev pub laid : Outcome (List ℕ) → ℕ → List ℕ → List ℕ
 laid (refused number offset) at output = output
 laid (ok bytes) at output = sets output at bytes
 
--- and the place after them, where they were
-abbrev pub laid_end : Outcome (List ℕ) → ℕ → Option ℕ
-laid_end (refused number offset) at = None
-laid_end (ok bytes) at = Some (at + length bytes)
+-- and the place after them
+abbrev pub laid_end : Outcome (List ℕ) → ℕ → ℕ
+laid_end (refused number offset) at = at
+laid_end (ok bytes) at = at + length bytes
+
+-- and that place where they were stored
+abbrev pub laid_place : Outcome (List ℕ) → ℕ → Option ℕ
+laid_place (refused number offset) at = None
+laid_place (ok bytes) at = Some (at + length bytes)

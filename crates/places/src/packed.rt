@@ -4,7 +4,7 @@ ghost use Rattle.std.proofs.lemmas.List.Edits.{sets};
 ghost use Rattle.format.specs.Packing.{packed_len, packed};
 
 use crate::block::BLOCK;
-use crate::put_packed;
+use crate::checked::put_packed;
 use bitpack::width::Width;
 
 // What is packed of each value of a column: its code.

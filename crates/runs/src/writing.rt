@@ -12,7 +12,7 @@ ghost use Rattle.runs.specs.RunAt.{FirstRun, Running, same_key, to_come};
 
 use codec::header::header_len;
 use format::Column;
-use places::{put_uvarint, put_varint};
+use places::checked::{put_uvarint, put_varint};
 use varint::uvarint_len_small;
 
 // Whether the value at `at` is the first, by the name of the definition of which the invariants speak: `==` in its callers is no plainer.

@@ -9,7 +9,7 @@ use codec::body::settle_uvarints;
 use codec::chunk::{Body, Codec, Encoder};
 use format::{Column, Encoding, Extent, Header, Refusal};
 use keys::fill_keys;
-use places::put_varint;
+use places::checked::put_varint;
 
 pub(crate) mod lengths;
 pub(crate) mod scan;

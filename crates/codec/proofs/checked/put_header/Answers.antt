@@ -6,7 +6,7 @@ use lib.ListN.{length, set, length-set}
 use Rattle.format.specs.Header.{header_len}
 use Rattle.format.specs.Standalone.{uvarint_write_outcome}
 use Rattle.places.proofs.Placing.{header-short, header-stored, length-laid}
-use Rattle.codec.proofs.header.put_header.Goals as goal
+use Rattle.codec.proofs.checked.put_header.Goals as goal
 
 pub returns-then-out-header_len : goal.returns-then-out-header_len
 returns-then-out-header_len c =

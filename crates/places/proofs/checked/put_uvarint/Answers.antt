@@ -2,7 +2,7 @@
 use native.Mathlib.Omega.{arith}
 use lib.ListN.{length-set}
 use Rattle.places.proofs.Placing.{uvarint_none, one-stored, two-short, two-stored}
-use Rattle.places.proofs.put_uvarint.Goals as goal
+use Rattle.places.proofs.checked.put_uvarint.Goals as goal
 
 pub returns-then-out-at : goal.returns-then-out-at
 returns-then-out-at c = let a = c.args in

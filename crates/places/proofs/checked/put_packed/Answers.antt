@@ -5,7 +5,7 @@ use borrow.Author.Rules.{rules}
 use lib.ListN.{length}
 use Rattle.format.specs.Standalone.{pack_outcome, pack_answer, pack_output}
 use Rattle.places.proofs.Placing.{space_is, placed_whole, end_none, end_some, packed-fits}
-use Rattle.places.proofs.put_packed.Goals as goal
+use Rattle.places.proofs.checked.put_packed.Goals as goal
 
 pub returns-in_err-n-clause-value : goal.returns-in_err-n-clause-value
 unfolding pack_answer

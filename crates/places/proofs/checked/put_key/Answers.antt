@@ -4,7 +4,7 @@ use mathlib.Core.Path.{ap, ◌∙◌}
 use mir.Facts.{to_z-of_z}
 use Rattle.format.specs.Keys.{residue}
 use Rattle.places.proofs.Placing.{key-short, key-stored}
-use Rattle.places.proofs.put_key.Goals as goal
+use Rattle.places.proofs.checked.put_key.Goals as goal
 
 pub returns-then-out-at : goal.returns-then-out-at
 returns-then-out-at c =

@@ -6,7 +6,7 @@ use borrow.Author.Rules.{rules}
 use lib.ListN.{length}
 use Rattle.format.specs.Standalone.{uvarint_write_outcome, uvarint_write_answer, uvarint_write_output}
 use Rattle.places.proofs.Placing.{space_is, placed_whole, end_none, end_some, uvarint-fits, uvarint_none}
-use Rattle.places.proofs.put_long.Goals as goal
+use Rattle.places.proofs.checked.put_long.Goals as goal
 
 here : {at length : ℕ} → at ≤ length → at ≡ min at length
 here inside = omega (arith, inside)

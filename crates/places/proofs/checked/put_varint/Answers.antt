@@ -2,7 +2,7 @@
 use mathlib.Core.Path.{ap, ◌∙◌}
 use mir.Facts.{to_z-of_z}
 use Rattle.format.specs.Keys.{zigzag}
-use Rattle.places.proofs.put_varint.Goals as goal
+use Rattle.places.proofs.checked.put_varint.Goals as goal
 
 pub returns : goal.returns
 returns c =
