@@ -1,4 +1,5 @@
 pub mod Decoding
+pub mod Filling
 pub mod Mapped
 pub mod Packing
 pub mod Placing

@@ -1,7 +1,7 @@
 -- Packing what a function gives of each value of a column, block by block: the bytes of the values that are left are still to come (`Storing`).
 use mathlib.Core.Path.{◌≡◌, sym, ap, ◌∙◌}
 use mathlib.Core.List.{List, [], ◌++◌, map, map-append, append-nil}
-use Prim.Native.Nat.{ℕ, ◌+◌, ◌-◌, ◌^◌, ◌≤◌, ◌<◌, min}
+use Prim.Native.Nat.{ℕ, ◌+◌, ◌-◌, ◌^◌, ◌≤◌, ◌<◌, min, zero-le}
 use native.Mathlib.Decide.{dec_le}
 use native.Mathlib.Omega.{arith}
 use lib.IntN.{ℤ}
@@ -14,7 +14,7 @@ use Rattle.format.specs.Encodings.{max_chunk_elements}
 use Rattle.format.specs.Packing.{packed_len, packed}
 use Rattle.format.specs.Standalone.{pack_outcome}
 use Rattle.format.proofs.Numbers.Packing.{packed_len-zero, packed_len-most, length-packed}
-use Rattle.format.proofs.Numbers.Stores.{sets-stored, Storing, storing-done}
+use Rattle.format.proofs.Numbers.Stores.{sets-stored, Storing, storing-none, storing-done}
 use Rattle.bitpack.proofs.PackingLaws.{packed_none, packed-append}
 use Rattle.places.specs.Places.{laid, laid_place}
 use Rattle.places.proofs.Placing.{storing_packed, storing_packed_some}
@@ -67,3 +67,14 @@ module _ (f : ℤ → ℕ) (w : ℕ) (column rest : List ℤ) {l out : List ℕ}
   pack-done e =
       let none : rest ≡ [] = drop_of_length-le rest {i = 0} (omega arith) in
       storing-done s (ap (λ (r : List ℤ). packed w (map f r)) none ∙ packed_none w [] (packed_len-zero w))
+
+-- The same, told by how many values are packed. Nothing cites how it begins (`placing-none`); it is kept as a law.
+module _ (f : ℤ → ℕ) (w : ℕ) (column : List ℤ) where
+  -- the bytes are to be stored in l from `from` on; those of i values are, which makes `out`
+  pub record Placing (l : List ℕ) (from : ℕ) (out : List ℕ) (at i : ℕ) : Type 0 where
+    pub passed : i ≤ length column
+    pub storing : Storing (packed w (map f column)) l from (packed w (map f (drop i column))) out at
+
+  module _ {l : List ℕ} {from : ℕ} where
+    pub placing-none : Placing l from l from 0
+    placing-none = record { passed = zero-le; storing = storing-none }
