@@ -1,6 +1,7 @@
 // A packed body goes in blocks of 128 values, which end on a byte at every width: how many values are left of it, where it ends, and
 // the values themselves, a block at a time.
 ghost use Rattle.std.specs.Prelude.{◌≡◌, ℕ, ◌++◌, ◌+◌, ◌≤◌, ◌<◌, min, [], length, take, get_or, MatchOption};
+ghost use Rattle.format.specs.Answers.{stored};
 ghost use Rattle.format.specs.Encodings.{max_chunk_elements};
 ghost use Rattle.format.specs.Packing.{packed_len, packed_values};
 ghost use Rattle.places.specs.Packed.{Inside};
@@ -57,11 +58,14 @@ impl<'a> Blocks<'a> {
         self.at + self.width.packed_len(self.left)
     }
 
-    // Unpacks the next block to the front of `block`, and answers how many values it has: the last one may be shorter.
+    // Unpacks the next block to the front of `block`, and answers how many values it has: the last one may be shorter, and behind it
+    // `block` stays. Where nothing is left, all of it does.
     pub fn next(&mut self, block: &mut [u64; BLOCK]) -> Option<usize>
-        ensures { MatchOption result (to_come self.old ≡ [])
+        ensures taken { MatchOption result (to_come self.old ≡ [])
             (λ n. (0 < n) × (n ≡ min (length (to_come self.old)) 128) × (length (to_come self.old) ≡ n + length (to_come self.new))
             × (to_come self.old ≡ take n block.new ++ to_come self.new)) }
+        ensures after { MatchOption result ((self.new ≡ self.old) × (block.new ≡ block.old))
+            (λ n. (body_end self.new ≡ body_end self.old) × (block.new ≡ stored (take n (to_come self.old)) block.old)) }
     {
         if self.left == 0 {
             return None;

@@ -12,7 +12,7 @@ use Rattle.dictionary.proofs.reading.codes_below.Goals as goal
 both : (c : After-block_below)
     → all_below c.args.entries (to_come c.loop-n.codes) ≡ (c.block_below.result && all_below c.args.entries (to_come c.next.new.self))
 both c =
-    ap (all_below c.args.entries) c.in-Some.ensures.3
+    ap (all_below c.args.entries) c.in-Some.ensures.taken.3
     ∙ below-append c.args.entries (take c.in-Some.n c.next.new.block) (to_come c.next.new.self)
     ∙ ap (λ (b : Bool). b && all_below c.args.entries (to_come c.next.new.self)) (sym c.block_below.ensures)
 
@@ -28,4 +28,4 @@ loop-n-preserved c =
 
 pub returns : goal.returns
 unfolding all_below
-returns c = sym (ap (all_below c.args.entries) c.in_default.ensures) ∙ c.loop-n.invariant
+returns c = sym (ap (all_below c.args.entries) c.in_default.ensures.taken) ∙ c.loop-n.invariant

@@ -5,13 +5,13 @@ use native.Mathlib.Omega.{arith}
 use borrow.Author.Rules.{rules}
 use Rattle.format.proofs.Numbers.All.{Below, all-by}
 use Rattle.format.proofs.Codecs.Counts.{length-packed_values}
-use Rattle.places.specs.Blocks.{to_come}
-use Rattle.places.proofs.Taking.{none_left, rest-there, block-taken, block-unpacked}
+use Rattle.places.specs.Blocks.{to_come, body_end}
+use Rattle.places.proofs.Taking.{none_left, end-kept, rest-there, block-taken, block-after, block-unpacked}
 use Rattle.places.proofs.block.Blocks.next.Goals as goal
 
 pub returns-then-self-eq0 : goal.returns-then-self-eq0
 unfolding to_come
-returns-then-self-eq0 c = none_left _ _ _ c.if-self-eq0.true
+returns-then-self-eq0 c = record { taken = none_left _ _ _ c.if-self-eq0.true; after = (refl, refl) }
 
 pub unwrap-requires : goal.unwrap-requires
 unwrap-requires c =
@@ -33,13 +33,22 @@ invariant_of-self c =
       there = rest-there s.chunk.now s.at s.width.bits s.left c.min-n.ensures c.packed_len.ensures s.few s.width.narrow s.there;
     }
 
-pub returns : goal.returns
+pub returns-clause-taken : goal.returns-clause-taken
 unfolding to_come
-returns c =
+returns-clause-taken c =
     let s = c.args.self.now in
     let bytes : Below 256 s.chunk.now = all-by s.chunk.now 0 λ i _. s.bytes i in (
       omega (arith, c.min-n.ensures, c.if-self-eq0.false),
       omega (arith, c.min-n.ensures, length-packed_values s.chunk.now s.at s.width.bits s.left),
       omega (arith, length-packed_values s.chunk.now s.at s.width.bits s.left, length-packed_values s.chunk.now (s.at + c.packed_len.result) s.width.bits (s.left - c.min-n.result), c.min-n.ensures),
       block-taken s.chunk.now s.at s.width.bits s.left c.min-n.ensures c.packed_len.ensures s.few s.width.narrow s.there bytes c.args.block.now c.told-block c.unpack.ensures.1,
+    )
+
+pub returns-clause-after : goal.returns-clause-after
+unfolding to_come body_end
+returns-clause-after c =
+    let s = c.args.self.now in
+    let bytes : Below 256 s.chunk.now = all-by s.chunk.now 0 λ i _. s.bytes i in (
+      end-kept s.chunk.now s.at s.width.bits s.left c.min-n.ensures c.packed_len.ensures s.few s.width.narrow s.there,
+      block-after s.chunk.now s.at s.width.bits s.left c.min-n.ensures c.packed_len.ensures s.few s.width.narrow s.there bytes c.args.block.now c.told-block c.unpack.ensures.1,
     )
