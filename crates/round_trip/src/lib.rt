@@ -9,7 +9,7 @@ ghost use Rattle.round_trip.specs.Told.{trip_told};
 ghost use Rattle.round_trip.specs.Trip.{trip_of, write_trip, read_trip};
 
 use format::Refusal;
-use integer::{decode_either, encode, read_all};
+use integer::{decode_either, encode_integers, read_all};
 use plan::{Planned, analyze};
 
 // What planning, writing and reading answered; nothing where a step did not run, since one before it was refused.
@@ -61,11 +61,12 @@ pub fn round_trip(
         return ended(planned, None);
     };
     let encoding = found.plan.encoding;
-    let written = encode(encoding, column, scratch, out);
+    let number = u32::from(encoding.id());
+    let written = encode_integers(column, number, scratch, out);
     let Ok(stored) = written else {
         return ended(planned, Some(written));
     };
-    let name = naming.then_some(u32::from(encoding.id()));
+    let name = naming.then_some(number);
     let read = decode_either(&out[..stored], name, strict, back);
     Trip {
         planned,
