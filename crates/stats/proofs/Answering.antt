@@ -133,3 +133,11 @@ module _ (column scratch : List ℤ) {after : List ℤ} (e : after ≡ write_scr
       let count = part-exact column (length scratch) (told column (length scratch) h) in
       (rw (count, e, same_scratch column scratch) (distinct_values-part column scratch), count)
   part-front (Err refusal) h = let none = part-none column (length scratch) (told column (length scratch) h) in (none, ap length none)
+
+  -- told of any count that is that one
+  module _ (found : Result ℕ Refusal) (h : outcome_of found ≡ collect_outcome column (length scratch)) {count : ℕ} (is : count ≡ result_unwrap_or found 0) where
+    pub part_taken : take count after ≡ distinct_values_part column (length scratch)
+    part_taken = rw is (part-front found h).0
+
+    pub part_whole : count ≡ length (take count after)
+    part_whole = let part = part-front found h in rw is (part.1 ∙ ap length (sym part.0))
