@@ -3,7 +3,7 @@
 use Rattle.std.proofs.Common.{◌≡◌, ℕ, ◌<◌, ◌≤◌, List, ℤ, ap, arith, le-leb}
 use borrow.Author.Tests.{lt-leb}
 use Rattle.format.specs.Outcome.{Outcome, refused, ok}
-use Rattle.format.specs.Statistics.{StatsAnswer, distinct_values, refused_stats, analysis_checks, stats_after_checks, stats_answer, analysis_scratch}
+use Rattle.format.specs.Statistics.{StatsAnswer, distinct_values, analysis_checks, stats_after_checks, stats_answer, analysis_scratch}
 use Rattle.format.specs.Estimates.{EstimatesAnswer, estimates_from, estimates_of, estimates_after_checks, estimates_answer}
 use Rattle.format.specs.Plan.{PlanAnswer, plan_from, plan_of, refused_plan, plan_checks, plan_after_checks, plan_answer, plan_scratch}
 use Rattle.format.specs.declared.EncodingPlan.{EncodingPlan}
@@ -23,10 +23,9 @@ planned answer plan = record { answer = answer; plan = plan }
 -- ---- for any outcome
 
 refused-after : (o : Outcome (Unit {0})) (level : ℕ) (column : List ℤ) {number offset : ℕ}
-    → analysed (refused number offset) refused_stats ≡ stats_after_checks o column → planned (refused number offset) refused_plan ≡ plan_after_checks o level column
-refused-after (refused n k) level column told = ap (λ (a : StatsAnswer). planned a.answer refused_plan) told
+    → refused number offset ≡ (stats_after_checks o column).answer → planned (refused number offset) refused_plan ≡ plan_after_checks o level column
+refused-after (refused n k) level column told = ap (λ (a : Outcome ℕ). planned a refused_plan) told
 refused-after (ok done) level column {number} {offset} told =
-    let h : refused number offset ≡ (stats_after_checks (ok done) column).answer = ap (λ (a : StatsAnswer). a.answer) told in
     let z : ◌≡◌ {A = ℕ} 0 1 = cc in absurd (omega arith)
 
 -- the plan is the one that the record and the estimates give, whatever distinct values these were made of
@@ -48,7 +47,7 @@ accepted-after (ok done) level column told made chosen =
 module _ (level : ℕ) (column : List ℤ) (room : ℕ) where
   -- a plan at a level of at most 9 is refused where the survey is,
   pub survey_refused : level ≤ 9 → {number offset : ℕ}
-      → ◌≡◌ {A = StatsAnswer} (record { answer = refused number offset; stats = refused_stats }) (stats_answer column room)
+      → refused number offset ≡ (stats_answer column room).answer
       → ◌≡◌ {A = PlanAnswer} (record { answer = refused number offset; plan = refused_plan }) (plan_answer level column room)
   unfolding stats_answer plan_answer plan_checks
   survey_refused low told = rw (le-leb level 9 low) (refused-after (analysis_checks column room) level column told)

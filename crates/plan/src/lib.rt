@@ -6,9 +6,11 @@ ghost use Rattle.format.specs.Plan.{plan_answer, plan_scratch};
 ghost use Rattle.plan.specs.Told.{plan_told};
 
 use crate::choose::choose_integer_encoding;
-use estimates::estimate_sizes;
 use format::limits::MAX_LEVEL;
 use format::{EncodingPlan, Kind, Refusal};
+
+// The lengths, without a plan.
+pub use estimates::estimate_sizes;
 
 pub(crate) mod candidates;
 pub(crate) mod choose;
@@ -23,7 +25,7 @@ pub struct Planned {
 }
 
 // The plan of a column at a level, 0 to 9.
-#[tactic(auto, using(crate::proofs::Surveying::level_refused, crate::proofs::Surveying::plan_scratch_low, crate::proofs::Surveying::plan_scratch_high))]
+#[tactic(auto, using(crate::proofs::Surveying::level_refused, crate::proofs::Surveying::survey_refused, crate::proofs::Surveying::plan_scratch_low, crate::proofs::Surveying::plan_scratch_high))]
 pub fn analyze(column: &[i64], level: u32, scratch: &mut [i64]) -> Result<Planned, Refusal>
     ensures value { plan_told result ≡ plan_answer level column.now (length scratch.old) }
     ensures scratch_after { scratch.new ≡ plan_scratch level column.now scratch.old }
