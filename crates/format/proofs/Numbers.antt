@@ -1,6 +1,7 @@
 pub mod All
 pub mod Digits
 pub mod Places
+pub mod Words
 pub mod Packing
 pub mod Occurs
 pub mod Widths
