@@ -9,6 +9,7 @@ use lib.ListN.{length}
 use borrow.Author.Tests.{lt-ltb}
 use native.Mathlib.Omega.{arith}
 use lib.Ieee.{fin}
+use Rattle.std.specs.Prelude.{None}
 use Rattle.format.specs.Outcome.{Outcome, refused, ok}
 use Rattle.format.specs.Answers.{number_of, offset_of, count_of}
 use Rattle.format.specs.Folds.{deltas}
@@ -115,6 +116,7 @@ pub record Worked : Type 0 where
         delta_max = pos 0;
         delta_span = 0;
       }
+  pub none-told : refused_estimates.lengths ≡ None ∷ None ∷ None ∷ None ∷ None ∷ None ∷ None ∷ []
   pub no_lengths : map (length_in refused_estimates) encodings ≡ 0 ∷ 0 ∷ 0 ∷ 0 ∷ 0 ∷ 0 ∷ 0 ∷ []
   pub none-available : map (available_in refused_estimates) encodings ≡ false ∷ false ∷ false ∷ false ∷ false ∷ false ∷ false ∷ []
   pub no-plan :
@@ -277,6 +279,7 @@ worked =
       wrapped = refl;
       all-fields = refl;
       no-stats = refl;
+      none-told = refl;
       no_lengths = refl;
       none-available = refl;
       no-plan = refl;
