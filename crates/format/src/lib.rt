@@ -5,7 +5,8 @@
 
 ghost use Rattle.std.specs.Prelude.{◌≡◌};
 ghost use Rattle.format.specs.Estimates.{is_exact, refused_estimates};
-ghost use Rattle.format.specs.Statistics.{cardinality_count};
+ghost use Rattle.format.specs.Plan.{refused_plan};
+ghost use Rattle.format.specs.Statistics.{cardinality_count, refused_stats};
 ghost use Rattle.format.specs.declared.Cardinality.TheVariants.{Exact};
 
 pub mod column;
@@ -97,8 +98,7 @@ pub struct Extent {
 }
 
 // The fields of the Rust's `IntegerStats` but the distinct values, which are handed back as a part of the scratch.
-// The default is the record of the empty column, which is a refused call's too.
-#[derive(Clone, Copy, Debug, Default, PartialEq, Eq)]
+#[derive(Clone, Copy, Debug, PartialEq, Eq)]
 pub struct IntegerStats {
     pub count: usize,
     pub first: i64,
@@ -114,6 +114,31 @@ pub struct IntegerStats {
     pub delta_min: i64,
     pub delta_max: i64,
     pub delta_span: u64,
+}
+
+// The record of the empty column, which is a refused call's too. By hand, so that its law says so.
+#[tactic(auto, unfolding(crate::specs::Statistics::refused_stats))]
+impl Default for IntegerStats {
+    ghost is_default = { λ stats. stats ≡ refused_stats };
+
+    fn default() -> IntegerStats {
+        IntegerStats {
+            count: 0,
+            first: 0,
+            min: 0,
+            max: 0,
+            run_count: 0,
+            sortedness: Sortedness::Constant,
+            cardinality: Cardinality::Exact(0),
+            value_span: 0,
+            max_zigzag: 0,
+            varint_body_bytes: 0,
+            run_length_body_bytes: 0,
+            delta_min: 0,
+            delta_max: 0,
+            delta_span: 0,
+        }
+    }
 }
 
 // The seven candidate lengths in the order of the ids, none where a candidate is not available.
@@ -132,8 +157,8 @@ impl Default for SizeEstimates {
     }
 }
 
-// The Rust's `EncodingPlan`, with the run density, the ratio and the candidates beside it. The default is a refused call's.
-#[derive(Clone, Copy, Debug, Default)]
+// The Rust's `EncodingPlan`, with the run density, the ratio and the candidates beside it.
+#[derive(Clone, Copy, Debug)]
 pub struct EncodingPlan {
     pub encoding: Encoding,
     pub estimated_bytes: usize,
@@ -142,4 +167,21 @@ pub struct EncodingPlan {
     pub run_density: f64,
     pub estimated_ratio: f64,
     pub estimates: SizeEstimates,
+}
+
+// The plan of a refused call. By hand, so that its law says so.
+impl Default for EncodingPlan {
+    ghost is_default = { λ plan. plan ≡ refused_plan };
+
+    fn default() -> EncodingPlan {
+        EncodingPlan {
+            encoding: Encoding::Plain,
+            estimated_bytes: 0,
+            plain_bytes: 0,
+            reason: PlanReason::Empty,
+            run_density: 0.0,
+            estimated_ratio: 0.0,
+            estimates: SizeEstimates::default(),
+        }
+    }
 }
