@@ -25,8 +25,9 @@ use Rattle.format.proofs.Numbers.Distinct.{distinct-rising}
 use Rattle.format.proofs.Lengths.Exact.{length-chunk}
 use Rattle.distinct.specs.Collect.{count_outcome, collect_outcome}
 use Rattle.distinct.proofs.Answering.{Collected}
-use Rattle.entries.specs.Measured.{body_len, measured}
-use Rattle.entries.proofs.Limits.{body_len-most, measured-within}
+use Rattle.entries.specs.Measured.{body_len, measured_in}
+use Rattle.entries.proofs.Limits.{body_len-most}
+use Rattle.entries.proofs.Within.{measured-within}
 use Rattle.dictionary.proofs.Body.{body-length}
 
 -- ---- the entries at the front of the scratch
@@ -47,13 +48,13 @@ module _ {column scratch : List ℤ} {n : ℕ} (c : Collected column scratch n) 
   entries-length = sym (body-length (take n scratch) column) ∙ ap length entries-body
 
   -- it is what is measured
-  pub same-measured : measured (take n scratch) (length column) ≡ Some (body_len (take n scratch) (length column))
+  pub same-measured : measured_in (take n scratch) (length column) ≡ Some (body_len (take n scratch) (length column))
   same-measured = measured-within (take n scratch) (length column) c.few (rw (length-take-le n scratch c.there) c.most)
 
   pub entries-most : body_len (take n scratch) (length column) ≤ 11 + 10 * n + 8 * length column
   entries-most = rw (length-take-le n scratch c.there) at (body_len-most (take n scratch) (length column))
 
-  pub entries-measured : {header body : ℕ} → header ≡ header_len (length column) → Some body ≡ measured (take n scratch) (length column)
+  pub entries-measured : {header body : ℕ} → header ≡ header_len (length column) → Some body ≡ measured_in (take n scratch) (length column)
       → header + body ≡ header_len (length column) + length (body_of Dictionary column)
   entries-measured {body} h b =
       let long : body ≡ body_len (take n scratch) (length column) = cc (b, same-measured) in

@@ -11,7 +11,7 @@ use crate::guess::Entries;
 use codec::checked::put_header;
 use codec::chunk::{Body, Codec};
 use codec::header::header_len;
-use entries::body_len;
+use entries::checked::body_len;
 use format::{Column, Encoding, Extent, Kind, Refusal};
 
 pub(crate) mod coded;

@@ -1,3 +1,4 @@
 pub mod Begins
 pub mod Limits
 pub mod Walking
+pub mod Within

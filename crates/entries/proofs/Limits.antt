@@ -1,12 +1,11 @@
 -- Within the limits of writing, what is measured is the body's length; and that is at most ten bytes for every varint, and eight for every code.
-use mathlib.Core.Path.{◌≡◌, sym}
+use mathlib.Core.Path.{◌≡◌}
 use mathlib.Core.List.{List}
 use Prim.Native.Nat.{ℕ, ◌+◌, ◌*◌, ◌≤◌, ◌<◌}
 use native.Mathlib.Omega.{arith}
 use lib.IntN.{ℤ}
 use lib.ListN.{length}
 use borrow.Author.Tests.{le-leb, lt-leb}
-use Rattle.std.specs.Prelude.{Some, None}
 use Rattle.format.specs.Varint.{uvarint_len}
 use Rattle.format.specs.Packing.{packed_len}
 use Rattle.format.specs.Encodings.{max_chunk_elements, max_dictionary_cardinality}
@@ -28,26 +27,22 @@ module _ (entries : List ℤ) (count : ℕ) where
         packed_len-most count (code_width (length entries)) (code_width-le (length entries)),
       )
 
-  -- more values, or more entries, than writing takes
-  pub measured_long : max_chunk_elements < count → None ≡ measured entries count
+  -- more values,
+  pub measured-long : max_chunk_elements < count → measured entries count ≡ 0
   unfolding measured
-  measured_long h = rw (lt-leb count max_chunk_elements h)
+  measured-long h = rw (lt-leb count max_chunk_elements h)
 
   module _ (few : count ≤ max_chunk_elements) where
-    pub measured_many : max_dictionary_cardinality < length entries → None ≡ measured entries count
+    -- or more entries, than writing takes
+    pub measured-many : max_dictionary_cardinality < length entries → measured entries count ≡ 0
     unfolding measured
-    measured_many h = rw (le-leb count max_chunk_elements few, lt-leb (length entries) max_dictionary_cardinality h)
+    measured-many h = rw (le-leb count max_chunk_elements few, lt-leb (length entries) max_dictionary_cardinality h)
 
     module _ (held : length entries ≤ max_dictionary_cardinality) where
       -- neither: it is measured
-      pub measured-within : measured entries count ≡ Some (body_len entries count)
+      pub measured-within : measured entries count ≡ body_len entries count
       unfolding measured
       measured-within = rw (le-leb count max_chunk_elements few, le-leb (length entries) max_dictionary_cardinality held)
-
-      -- by its parts
-      pub measured_parts : Some (uvarint_len (length entries) + entries_len entries + 1 + packed_len count (code_width (length entries))) ≡ measured entries count
-      unfolding body_len
-      measured_parts = sym measured-within
 
 -- the parts are not long
 pub codes_most : (count entries : ℕ) → packed_len count (code_width entries) ≤ 8 * count

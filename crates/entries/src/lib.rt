@@ -9,8 +9,8 @@ ghost use Rattle.entries.specs.Measured.{measured};
 
 use crate::gap::Gaps;
 use bitpack::width::Width;
-use format::limits::{MAX_CHUNK_ELEMENTS, MAX_DICTIONARY_CARDINALITY};
 
+pub mod checked;
 pub mod gap;
 
 // The width of the codes for so many entries, which is that of the last code; 0 for none.
@@ -34,15 +34,11 @@ fn entries_len(entries: &[i64]) -> usize
     sum
 }
 
-// How many bytes the body of a Dictionary chunk has for these entries and `count` values; none where there are more of either than
-// writing takes.
-#[tactic(auto, using(crate::proofs::Limits::measured_long, crate::proofs::Limits::measured_many, crate::proofs::Limits::measured_parts, format::proofs::Numbers::Widths::uvarint_len_le, crate::proofs::Limits::codes_most, crate::proofs::Walking::entries_most))]
-pub fn body_len(entries: &[i64], count: usize) -> Option<usize>
+// How many bytes the body of a Dictionary chunk has for these entries and `count` values; 0 where there are more of either than
+// writing takes, of which `checked` tells none.
+#[tactic(auto, using(crate::proofs::Within::measured_or))]
+pub fn body_len(entries: &[i64], count: usize) -> usize
     ensures { result ≡ measured entries.now count }
 {
-    if MAX_CHUNK_ELEMENTS < count || MAX_DICTIONARY_CARDINALITY < entries.len() {
-        return None;
-    }
-    let codes = code_width(entries.len()).packed_len(count);
-    Some(varint::uvarint_len(entries.len() as u64) + entries_len(entries) + 1 + codes)
+    checked::body_len(entries, count).unwrap_or(0)
 }

@@ -14,8 +14,9 @@ use Rattle.format.specs.Packing.{packed_len}
 use Rattle.format.specs.Encodings.{max_chunk_elements, max_dictionary_cardinality}
 use Rattle.format.specs.Header.{header_len}
 use Rattle.format.specs.Delta.{delta_block_size, block_count}
-use Rattle.entries.specs.Measured.{body_len, measured}
-use Rattle.entries.proofs.Limits.{body_len-most, measured-within}
+use Rattle.entries.specs.Measured.{body_len, measured_in}
+use Rattle.entries.proofs.Limits.{body_len-most}
+use Rattle.entries.proofs.Within.{measured-within}
 use Rattle.format.proofs.Numbers.Keys.{varint_len-le}
 use Rattle.format.proofs.Numbers.Packing.{packed_len-most}
 use Rattle.format.proofs.Numbers.Widths.{width-le, uvarint_len_le}
@@ -49,10 +50,10 @@ module _ {count : ℕ} (few : count ≤ max_chunk_elements) where
 
 -- entries, and the codes of a column's values, both within the limits: they are measured
 module _ (entries : List ℤ) {count : ℕ} (few : count ≤ max_chunk_elements) (held : length entries ≤ max_dictionary_cardinality) where
-  pub entries_there : None ≡ measured entries count → ⊥
+  pub entries_there : None ≡ measured_in entries count → ⊥
   entries_there e = none-some _ (e ∙ measured-within entries count few held)
 
-  module _ {bytes : ℕ} (e : Some bytes ≡ measured entries count) where
+  module _ {bytes : ℕ} (e : Some bytes ≡ measured_in entries count) where
     pub entries_made : bytes ≡ body_len entries count
     entries_made = let h : Some bytes ≡ Some (body_len entries count) = e ∙ measured-within entries count few held in cc
 

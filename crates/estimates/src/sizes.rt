@@ -113,7 +113,7 @@ impl Measured {
     {
         match self.stats.cardinality {
             Cardinality::Exact(_) => {
-                let body = entries::body_len(entries, self.stats.count)?;
+                let body = entries::checked::body_len(entries, self.stats.count)?;
                 Some(header_len(self.stats.count) + body)
             }
             Cardinality::AtLeast(_) => None,
