@@ -1,15 +1,37 @@
 // A packed body goes in blocks of 128 values, which end on a byte at every width: how many values are left of it, where it ends, and
 // the values themselves, a block at a time.
 ghost use Rattle.std.specs.Prelude.{◌≡◌, ℕ, ◌++◌, ◌+◌, ◌≤◌, ◌<◌, min, [], length, take, get_or, MatchOption};
-ghost use Rattle.format.specs.Answers.{stored};
+ghost use Rattle.format.specs.Answers.{count_of, stored};
 ghost use Rattle.format.specs.Encodings.{max_chunk_elements};
 ghost use Rattle.format.specs.Packing.{packed_len, packed_values};
+ghost use Rattle.format.specs.Standalone.{packed_len_answer};
 ghost use Rattle.places.specs.Packed.{Inside};
 
 use bitpack::width::Width;
 
 // Values in a block: 8k values of w bits are k * w whole bytes, so the bytes of blocks join.
 pub const BLOCK: usize = 128;
+
+// The smaller of a number and a limit.
+pub fn at_most(n: usize, limit: usize) -> usize
+    ensures { result ≡ min n limit }
+{
+    n.min(limit)
+}
+
+// How many values the next block has, where so many are left.
+pub fn block_len(left: usize) -> usize
+    ensures { result ≡ min left 128 }
+{
+    left.min(BLOCK)
+}
+
+// Bytes of n values packed at a width; 0 where a packed length alone is refused.
+pub fn packed_bytes(n: usize, width: u32) -> usize
+    ensures { result ≡ count_of (packed_len_answer n width) }
+{
+    bitpack::packed_len(n, width).unwrap_or(0)
+}
 
 // What is left of a packed body: `left` values from byte `at` on.
 #[derive(Clone, Copy)]
