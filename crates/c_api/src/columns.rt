@@ -13,7 +13,6 @@ use format::Kind;
 use rows::{EstimatesRow, PlanRow, StatsRow};
 
 // The statistics of a column; the scratch's front has its distinct values.
-#[tactic(auto, unfolding(format::specs::Statistics::refused_stats))]
 #[unsafe(no_mangle)]
 pub extern "C" fn wb_analyze_integers(
     column: &[i64],
@@ -46,7 +45,6 @@ pub extern "C" fn wb_distinct_values(column: &[i64], scratch: &mut [i64], place:
 }
 
 // The seven lengths of a column and which are available, with the statistics that they are made of.
-#[tactic(auto, unfolding(format::specs::Statistics::refused_stats))]
 #[unsafe(no_mangle)]
 pub extern "C" fn wb_estimate_sizes(
     column: &[i64],
@@ -69,7 +67,6 @@ pub extern "C" fn wb_estimate_sizes(
 }
 
 // The plan of a column at a level.
-#[tactic(auto, using(plan::proofs::Literals::zero), unfolding(format::specs::Plan::refused_plan))]
 #[unsafe(no_mangle)]
 pub extern "C" fn wb_analyze(
     column: &[i64],

@@ -5,17 +5,13 @@ use lib.ListN.{get_or}
 use borrow.Author.Rules.{rules}
 use borrow.Author.Tests.{eqb-true, eqb-false}
 use Rattle.format.specs.Keys.{gap}
-use Rattle.format.specs.Statistics.{refused_stats}
 use Rattle.number.proofs.Signed.{held}
 use Rattle.stats.proofs.Fields.{result-of}
 use Rattle.stats.proofs.Recording.{stats-none, stats-made}
 use Rattle.stats.proofs.record.stats_of.Goals as goal
 
 pub returns-then-is_empty : goal.returns-then-is_empty
-unfolding refused_stats
-returns-then-is_empty c =
-    let empty : c.default.result ≡ refused_stats = search rules in
-    empty ∙ stats-none _ (eqb-true _ 0 (sym c.is_empty.ensures ∙ c.if-is_empty.true))
+returns-then-is_empty c = c.default.ensures ∙ stats-none _ (eqb-true _ 0 (sym c.is_empty.ensures ∙ c.if-is_empty.true))
 
 pub returns : goal.returns
 returns c =
