@@ -1,5 +1,6 @@
 -- The body has at most nine bytes a value, and few more.
 use native.Mathlib.Omega.{arith}
+use Rattle.std.proofs.lemmas.Grind.{common_steps}
 use Rattle.format.specs.Chunk.{body_of}
 use Rattle.delta.proofs.Measured.{body-limit}
 use Rattle.delta.proofs.DeltaBinaryPackedEncoder.lacking.Goals as goal
@@ -9,4 +10,4 @@ lacking_for-requires-clause-short c = omega (arith, c.requires, c.args.column.fe
 
 pub returns : goal.returns
 unfolding body_of
-returns c = rw c.requires at c.lacking_for.ensures
+returns c = grind (arith, common_steps)
